@@ -1,6 +1,8 @@
 ghost use mathlib.Core.Path.{_≡_};
 ghost use Rattle.std.specs.declared.option.Option.the-variants.{Some};
-ghost use Rattle.model.specs.Names.{ruleName};
+ghost use Rattle.model.specs.Law.{Law, AdmissionSuffices};
+ghost use Rattle.model.specs.Names.{ruleName, refusalNumber};
+ghost use Rattle.model.specs.ShortRuns.{ShortRuns};
 use std::fmt;
 
 // A step of a job's program, over eight 32-bit registers, numbered 0 to 7. The letters are those of a listing.
@@ -80,6 +82,86 @@ pub enum Rule {
     C3,
 }
 
+// What a turn did: the rule, and the cell for the rules that name one.
+#[derive(Clone, Copy)]
+pub struct Applied {
+    pub rule: Rule,
+    pub cell: Option<u32>,
+}
+
+// An entry of a read log or a write log.
+#[derive(Clone, Copy, Debug, PartialEq)]
+pub struct Entry {
+    pub cell: u32,
+    pub number: u32,
+}
+
+// Who takes the commit right, sets cells and stands in the commit order. Jobs and corrections are numbered from 1.
+#[derive(Clone, Copy, Debug, PartialEq)]
+pub enum Party {
+    Job(u32),
+    Correction(u32),
+}
+
+// Why a call changed nothing.
+#[derive(Clone, Copy, Debug, PartialEq)]
+pub enum Refusal {
+    // A 17th job.
+    TooManyJobs,
+    // No steps, or more than 24.
+    StepCount,
+    // A register above 7.
+    NoSuchRegister,
+    // A cell not below the store's count.
+    NoSuchCell,
+    // A jump that names no later step of the job.
+    NoLaterStep,
+    // A last step that neither waits nor ends.
+    LastStep,
+    // Job 0, or one that was not admitted.
+    NoSuchJob,
+    // A ninth correction.
+    TooManyCorrections,
+    // A slip of another run, or of a correction that is not open.
+    NotOpen,
+    // A 25th cell for that log.
+    LogFull,
+    // A filing while a job holds the commit right.
+    RightHeld,
+    // A filing whose read log differs from a cell; this is the lowest.
+    Changed { cell: u32 },
+}
+
+impl Refusal {
+    // The number under which a refusal is told.
+    pub fn number(self) -> u32
+        ensures { λ r. ⌜ r ≡ refusalNumber self ⌝ }
+    {
+        match self {
+            Refusal::TooManyJobs => 1,
+            Refusal::StepCount => 2,
+            Refusal::NoSuchRegister => 3,
+            Refusal::NoSuchCell => 4,
+            Refusal::NoLaterStep => 5,
+            Refusal::LastStep => 6,
+            Refusal::NoSuchJob => 7,
+            Refusal::TooManyCorrections => 8,
+            Refusal::NotOpen => 9,
+            Refusal::LogFull => 10,
+            Refusal::RightHeld => 11,
+            Refusal::Changed { cell: _ } => 12,
+        }
+    }
+}
+
+// Why a job was not admitted: the step, from 1, or 0 where no step is to blame, and the field of that step, or 0.
+#[derive(Clone, Copy, Debug, PartialEq)]
+pub struct Fault {
+    pub refusal: Refusal,
+    pub step: u32,
+    pub field: u32,
+}
+
 pub impl fmt::Display for Rule as RuleDisplay {
     ghost shown = { λ x. Some (ruleName x) };
 
@@ -113,3 +195,19 @@ fn name_of(rule: Rule) -> &'static str
         Rule::C3 => "c3",
     }
 }
+
+// The law of runs: after any list of calls on a run of admissible jobs, refused calls included, the commit order
+// replayed alone gives the run's cells and readings, restarts have a cause, and no one is forgotten.
+pub fn law_of_runs()
+    ensures { λ _. ⌜ Law ⌝ }
+{}
+
+// What is admitted is what the law asks of a program.
+pub fn admission_suffices()
+    ensures { λ _. ⌜ AdmissionSuffices ⌝ }
+{}
+
+// Nine short runs come out as their tables say.
+pub fn short_runs()
+    ensures { λ _. ⌜ ShortRuns ⌝ }
+{}
