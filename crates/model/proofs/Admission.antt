@@ -8,9 +8,10 @@ use lib.Dec.{eqb, ltb, leb}
 use lib.ListN.{length}
 use Rattle.std.specs.Finite.{nth}
 use Rattle.std.proofs.shelf.Tests.{or-parts, not-false, eqb-false, ltb-false, leb-false}
+use Rattle.std.specs.Options.{orOther}
 use Rattle.std.specs.declared.option.Option.{Option}
 use Rattle.std.specs.declared.option.Option.the-variants.{Some, None}
-use Rattle.model.specs.Intake.{orElse, fault, faultIf, badRegister, badJump, stepFault, stepsFault, lastStops, badCount}
+use Rattle.model.specs.Intake.{fault, faultIf, badRegister, badJump, stepFault, stepsFault, lastStops, badCount}
 use Rattle.model.specs.Law.{AdmissionSuffices}
 use Rattle.model.specs.declared.Fault.{Fault}
 use Rattle.model.specs.declared.Refusal.the-variants.{TooManyJobs, StepCount, LastStep}
@@ -18,16 +19,16 @@ use Rattle.model.specs.declared.Step.{Step}
 use Rattle.model.specs.declared.Step.the-variants.{JumpIfLess}
 use Rattle.model.proofs.Basics.{by-bool, zero-one}
 
-neither : {A : Type 0} (x y : Option A) → orElse x y ≡ None → (x ≡ None) × (y ≡ None)
+pub neither : {A : Type 0} (x y : Option A) → orOther x y ≡ None → (x ≡ None) × (y ≡ None)
 neither None y e = (refl, e)
 neither (Some x) y e = zero-one (cc)
 
-not-bad : (bad : Bool) (f : Fault) → faultIf bad f ≡ None → bad ≡ false
+pub not-bad : (bad : Bool) (f : Fault) → faultIf bad f ≡ None → bad ≡ false
 not-bad true f e = zero-one (cc)
 not-bad false f e = refl
 
 -- Each step has no fault of its own.
-no-fault : (count len m : ℕ) (steps : List Step) → stepsFault count len m steps ≡ None → (n : ℕ) (st : Step) → nth steps n ≡ Some st → stepFault count len (m + n) st ≡ None
+pub no-fault : (count len m : ℕ) (steps : List Step) → stepsFault count len m steps ≡ None → (n : ℕ) (st : Step) → nth steps n ≡ Some st → stepFault count len (m + n) st ≡ None
 no-fault count len m [] h n st e = zero-one (cc)
 no-fault count len m (x ∷ steps) h zero st e =
     let q : x ≡ st = cc in

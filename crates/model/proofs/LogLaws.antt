@@ -118,7 +118,7 @@ above-put a c v (p ∷ l) h k =
     (λ e. (k, h .1))
     (λ e. by-cond (Above a) (ltb c (p .cell)) _ _ (λ f. (k, h)) (λ f. (h .0, above-put a c v l (h .1) k)))
 
-ascending-put : (c v : ℕ) (l : Log) → Ascending l → Ascending (put l c v)
+pub ascending-put : (c v : ℕ) (l : Log) → Ascending l → Ascending (put l c v)
 ascending-put c v [] h = (tt, tt)
 ascending-put c v (p ∷ l) h =
     by-cond Ascending (eqb (p .cell) c) _ _
@@ -135,12 +135,12 @@ above-remove : (a c : ℕ) (l : Log) → Above a l → Above a (remove l c)
 above-remove a c [] h = tt
 above-remove a c (p ∷ l) h = by-cond (Above a) (eqb (p .cell) c) _ _ (λ e. h .1) (λ e. (h .0, above-remove a c l (h .1)))
 
-ascending-remove : (c : ℕ) (l : Log) → Ascending l → Ascending (remove l c)
+pub ascending-remove : (c : ℕ) (l : Log) → Ascending l → Ascending (remove l c)
 ascending-remove c [] h = tt
 ascending-remove c (p ∷ l) h =
     by-cond Ascending (eqb (p .cell) c) _ _ (λ e. h .1) (λ e. (above-remove (p .cell) c l (h .0), ascending-remove c l (h .1)))
 
-length-put-le : (c v : ℕ) (l : Log) → length (put l c v) ≤ suc (length l)
+pub length-put-le : (c v : ℕ) (l : Log) → length (put l c v) ≤ suc (length l)
 length-put-le c v [] = let q : 1 ≤ 1 = omega arith in q
 length-put-le c v (p ∷ l) = let ih = length-put-le c v l in grind arith
 
@@ -162,7 +162,7 @@ length-put-old c v w (p ∷ l) h e =
         let ih : find l c ≡ Some w → ⊥ = above-absent c a w l (h .1) k in
         grind arith
 
-length-remove-le : (c : ℕ) (l : Log) → length (remove l c) ≤ length l
+pub length-remove-le : (c : ℕ) (l : Log) → length (remove l c) ≤ length l
 length-remove-le c [] = omega arith
 length-remove-le c (p ∷ l) = let ih = length-remove-le c l in grind arith
 

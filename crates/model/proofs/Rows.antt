@@ -4,6 +4,6 @@ use Rattle.model.specs.ShortRuns.{ShortRuns}
 
 pub rows : ShortRuns
 rows = (
-  ((refl, refl, refl), ((refl, refl, refl), ((refl, refl, refl), ((refl, refl, refl), ((refl, refl, refl), ((refl, refl, refl), ((refl, refl, refl), tt))))))),
+  ((refl, refl, refl), ((refl, refl, refl), ((refl, refl, refl), ((refl, refl, refl), ((refl, refl, refl), ((refl, refl, refl), ((refl, refl, refl), ((refl, refl, refl), tt)))))))),
   (refl, (refl, (refl, (refl, tt)))),
 )

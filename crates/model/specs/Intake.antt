@@ -4,6 +4,7 @@ use mathlib.Core.List.{List, [], _∷_, _++_, map}
 use Prim.Native.Nat.{ℕ, zero, suc}
 use lib.Dec.{eqb, ltb, leb}
 use lib.ListN.{length}
+use Rattle.std.specs.Options.{orOther}
 use Rattle.std.specs.declared.option.Option.{Option}
 use Rattle.std.specs.declared.option.Option.the-variants.{Some, None}
 use Rattle.std.specs.declared.result.Result.{Result}
@@ -26,10 +27,6 @@ pub record Intake : Type 0 where
   pub cells : List ℕ
   pub programs : List (List Step)
 
-abbrev pub orElse : {A : Type 0} → Option A → Option A → Option A
-orElse None later = later
-orElse (Some x) later = Some x
-
 abbrev pub fault : Refusal → ℕ → ℕ → Fault
 fault refusal step field = record { refusal = refusal; step = step; field = field }
 
@@ -47,19 +44,19 @@ abbrev pub badJump : ℕ → ℕ → ℕ → ℕ → Option Fault
 badJump steps n field target = faultIf (leb target n || ltb steps target) (fault NoLaterStep n field)
 
 abbrev pub stepFault : ℕ → ℕ → ℕ → Step → Option Fault
-stepFault count steps n (Read r cell) = orElse (badRegister n 1 r) (badCell count n 2 cell)
-stepFault count steps n (Write cell r) = orElse (badRegister n 2 r) (badCell count n 1 cell)
+stepFault count steps n (Read r cell) = orOther (badRegister n 1 r) (badCell count n 2 cell)
+stepFault count steps n (Write cell r) = orOther (badRegister n 2 r) (badCell count n 1 cell)
 stepFault count steps n (Load r number) = badRegister n 1 r
-stepFault count steps n (Add r q) = orElse (badRegister n 1 r) (badRegister n 2 q)
-stepFault count steps n (Subtract r q) = orElse (badRegister n 1 r) (badRegister n 2 q)
-stepFault count steps n (JumpIfLess r q target) = orElse (badRegister n 1 r) (orElse (badRegister n 2 q) (badJump steps n 3 target))
+stepFault count steps n (Add r q) = orOther (badRegister n 1 r) (badRegister n 2 q)
+stepFault count steps n (Subtract r q) = orOther (badRegister n 1 r) (badRegister n 2 q)
+stepFault count steps n (JumpIfLess r q target) = orOther (badRegister n 1 r) (orOther (badRegister n 2 q) (badJump steps n 3 target))
 stepFault count steps n Wait = None
 stepFault count steps n End = None
 
 -- The first fault of the steps from step n on.
 abbrev pub stepsFault : ℕ → ℕ → ℕ → List Step → Option Fault
 stepsFault count steps n [] = None
-stepsFault count steps n (step ∷ rest) = orElse (stepFault count steps n step) (stepsFault count steps (suc n) rest)
+stepsFault count steps n (step ∷ rest) = orOther (stepFault count steps n step) (stepsFault count steps (suc n) rest)
 
 abbrev pub stops : Step → Bool
 stops (Read r cell) = false
@@ -82,9 +79,9 @@ badCount steps = eqb (length steps) 0 || ltb 24 (length steps)
 -- Why the steps are not admitted after so many jobs, over so many cells: the first that holds.
 abbrev pub admissionFault : ℕ → ℕ → List Step → Option Fault
 admissionFault jobs count steps =
-    orElse (faultIf (leb 16 jobs) (fault TooManyJobs 0 0))
-    (orElse (faultIf (badCount steps) (fault StepCount 0 0))
-    (orElse (stepsFault count (length steps) 1 steps)
+    orOther (faultIf (leb 16 jobs) (fault TooManyJobs 0 0))
+    (orOther (faultIf (badCount steps) (fault StepCount 0 0))
+    (orOther (stepsFault count (length steps) 1 steps)
     (faultIf (not (lastStops steps)) (fault LastStep (length steps) 0))))
 
 -- Admission answers the job's number.

@@ -1,7 +1,7 @@
 -- A running run, and the table of rules: which rules a stage has, when each fits, and what it changes. Assumes nothing.
 use mathlib.Core.Bool.{Bool, true, false, cond, not, _&&_}
 use mathlib.Core.List.{List, [], _∷_, _++_}
-use Prim.Native.Nat.{ℕ, suc, _%_, _^_}
+use Prim.Native.Nat.{ℕ, suc, _+_, _%_, _^_}
 use lib.Dec.{eqb}
 use lib.ListN.{set}
 use Rattle.std.specs.Finite.{nth}
@@ -54,7 +54,7 @@ pub data Event : Type 0 where
 
 -- Counters have 32 bits.
 abbrev pub counted : ℕ → ℕ
-counted n = suc n % 2 ^ 32
+counted n = (n + 1) % 2 ^ 32
 
 -- How many steps stand before the one at which a job stands.
 abbrev pub placeOf : Stage → ℕ

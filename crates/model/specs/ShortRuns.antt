@@ -1,4 +1,4 @@
--- Nine short runs, as rows of tables that the checker computes. Assumes nothing.
+-- Short runs, as rows of tables that the checker computes. Assumes nothing.
 use mathlib.Core.Path.{_≡_}
 use mathlib.Core.List.{List, [], _∷_, _++_, map}
 use Prim.Native.Nat.{ℕ, zero, suc}
@@ -163,6 +163,17 @@ setAgain = record {
   starts = 1 ∷ [];
 }
 
+-- A second read of a cell comes from the read log, whatever was set in between; so the job rolls back.
+abbrev pub readTwice : Row
+readTwice = record {
+  cells = 7 ∷ [];
+  programs = (step.Read 0 0 ∷ step.Read 1 0 ∷ step.End ∷ []) ∷ [];
+  calls = turns 2 1 ++ Open ∷ Write slip 0 5 ∷ File slip ∷ turns 4 1;
+  answers = by S3 ∷ onCell R3 0 ∷ opened ∷ accepted ∷ accepted ∷ onCell R2 0 ∷ by E ∷ onCell V2 0 ∷ by Rb ∷ [];
+  left = 5 ∷ [];
+  starts = 1 ∷ [];
+}
+
 -- Rows of admission over one cell: the steps, and the answer.
 abbrev pub Admits : List (List Step × Result ℕ Fault) → Type 0
 Admits [] = Unit {0}
@@ -180,4 +191,4 @@ admissions =
     ∷ []
 
 abbrev pub ShortRuns : Type 0
-ShortRuns = AllHold (oneAdder ∷ twoAdders ∷ twoMovers ∷ outdated ∷ overtaken ∷ ownWrite ∷ setAgain ∷ []) × Admits admissions
+ShortRuns = AllHold (oneAdder ∷ twoAdders ∷ twoMovers ∷ outdated ∷ overtaken ∷ ownWrite ∷ setAgain ∷ readTwice ∷ []) × Admits admissions

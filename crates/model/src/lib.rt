@@ -207,7 +207,7 @@ pub fn admission_suffices()
     ensures { λ _. ⌜ AdmissionSuffices ⌝ }
 {}
 
-// Nine short runs come out as their tables say.
+// Short runs come out as their tables say.
 pub fn short_runs()
     ensures { λ _. ⌜ ShortRuns ⌝ }
 {}

@@ -12,6 +12,7 @@ use Rattle.std.specs.declared.option.Option.the-variants.{Some, None}
 use Rattle.std.proofs.shelf.Lists.{getD-past}
 use Rattle.std.proofs.shelf.Tests.{cases-lt, lt-ltb, le-ltb}
 use Rattle.store.specs.Cells.{cellAt}
+use Rattle.store.proofs.Cells.{get-past}
 
 -- An index that is no cell's: past the words, or past the first n.
 abbrev pub Beyond : ℕ → List ℕ → ℕ → Type 0
@@ -27,7 +28,7 @@ pub get-inside : (n : ℕ) (words : List ℕ) (i : ℕ) → i < length words →
 get-inside n words i h k = rw (inside n words i h k, getD-take n words i 0 k)
 
 pub get-outside : (n : ℕ) (words : List ℕ) (i : ℕ) → Beyond n words i → None ≡ cellAt (take n words) i
-get-outside n words i h = rw (outside n words i h)
+get-outside n words i h = get-past (take n words) i (omega (arith, length-take n words))
 
 pub set-outside : (n : ℕ) (words : List ℕ) (i v : ℕ) → Beyond n words i → take n words ≡ set (take n words) i v
 set-outside n words i v h = rw (set-out (take n words) i v (omega (arith, length-take n words)))

@@ -5,7 +5,11 @@ ghost use lib.ListN.{length, getD, set};
 ghost use lib.Dec.{ltb};
 ghost use Rattle.store.specs.Cells.{cellAt};
 
+pub mod change;
 pub mod word_table;
+
+// No store has more cells than this.
+pub const MOST_CELLS: usize = 65536;
 
 // A store is a list of 0 to 65,536 numbers of 32 bits. Each is a cell, and cells are counted from 0.
 // The count never changes: `set` keeps the list's length, and the other calls only look.

@@ -1,14 +1,11 @@
 ghost use denote.Ref.{now, name};
 ghost use mathlib.Core.Path.{_≡_};
-ghost use mathlib.Core.List.{List, _∷_};
-ghost use Prim.Native.Nat.{ℕ, _^_, _<_, _≤_};
-ghost use lib.ListN.{length, getD, set};
-ghost use lib.Dec.{ltb};
-ghost use Rattle.store.specs.Cells.{cellAt, wordCells, wordsBeyond};
+ghost use mathlib.Core.List.{_∷_};
+ghost use Prim.Native.Nat.{ℕ, _^_, _<_};
+ghost use lib.ListN.{getD};
+ghost use Rattle.store.specs.Cells.{wordCells, wordsBeyond};
+use crate::MOST_CELLS;
 use crate::Store;
-
-// No store has more cells than this.
-const MOST_CELLS: usize = 65536;
 
 // A store over lent 32-bit words: its cells are these words, or the first 65,536 if there are more.
 #[derive(Drop)]

@@ -1,4 +1,3 @@
-use mathlib.Core.Path.{_≡_, _∙_, sym}
 use native.Mathlib.Omega.{arith}
 use lib.ListN.{length-take}
 use Rattle.store.proofs.Words.{fit-take}

@@ -1,0 +1,2 @@
+mod Layer
+mod Places
