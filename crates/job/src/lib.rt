@@ -1,0 +1,5 @@
+pub mod admission;
+pub mod job;
+pub mod jobs;
+pub mod moves;
+pub mod stages;

@@ -1,0 +1,4 @@
+pub mod Intakes
+pub mod Runs
+pub mod Shape
+pub mod States
