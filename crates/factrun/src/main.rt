@@ -1,5 +1,4 @@
 use model::Applied;
-use model::Fault;
 use model::Party;
 use model::PartyPartialEq;
 use model::RuleDisplay;
@@ -58,7 +57,7 @@ fn play<S: Store>(rt: &impl Print, run: &mut Run<S>, job: u32) -> io::Result<()>
     Ok(())
 }
 
-// Prints the commit order, and then the job. Says whether it all went out.
+// Prints the job's place in the commit order, and then the job.
 fn print_jobs<S: Store>(rt: &impl Print, run: &Run<S>, job: u32) -> io::Result<()> {
     let mut committed = false;
     for place in 1..=24 {
@@ -86,15 +85,24 @@ fn print_cells<S: Store>(rt: &impl Print, store: &S) -> io::Result<()> {
     Ok(())
 }
 
-fn main(rt: LibcRuntime) -> io::Result<()> {
-    let mut words = [NUMBER];
-    let mut intake = Intake::new(WriteBack::new(WordTable::new(&mut words)), RUN);
+// Carries the run to its end over a write-back layer, and gives the store below back.
+fn carry<S: Store>(rt: &impl Print, below: S) -> (S, io::Result<()>) {
+    let mut intake = Intake::new(WriteBack::new(below), RUN);
     let job = intake.admit(&PROGRAM).unwrap_or(0);
     let mut run = intake.seal();
-    let played = play(&rt, &mut run, job);
-    let jobs = print_jobs(&rt, &run, job);
-    let table = run.close().into_store();
-    played?;
-    jobs?;
+    let printed = print_run(rt, &mut run, job);
+    (run.close().into_store(), printed)
+}
+
+fn print_run<S: Store>(rt: &impl Print, run: &mut Run<S>, job: u32) -> io::Result<()> {
+    play(rt, run, job)?;
+    run.settle();
+    print_jobs(rt, run, job)
+}
+
+fn main(rt: LibcRuntime) -> io::Result<()> {
+    let mut words = [NUMBER];
+    let (table, printed) = carry(&rt, WordTable::new(&mut words));
+    printed?;
     print_cells(&rt, &table)
 }

@@ -1,0 +1,9 @@
+// Tests of runs over every kind of store and over layers: what jobs leave, who waits and wakes, and every refusal.
+#[cfg(test)]
+mod outcomes;
+#[cfg(test)]
+mod programs;
+#[cfg(test)]
+mod refusals;
+#[cfg(test)]
+mod stores;
