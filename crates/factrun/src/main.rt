@@ -22,6 +22,9 @@ const CELL: u32 = 0;
 
 const NUMBER: u32 = 7;
 
+// More commits than a run can have.
+const MOST_COMMITS: u32 = 24;
+
 // More turns than the one job can use.
 const MOST_TURNS: u32 = 100;
 
@@ -60,7 +63,7 @@ fn play<S: Store>(rt: &impl Print, run: &mut Run<S>, job: u32) -> io::Result<()>
 // Prints the job's place in the commit order, and then the job.
 fn print_jobs<S: Store>(rt: &impl Print, run: &Run<S>, job: u32) -> io::Result<()> {
     let mut committed = false;
-    for place in 1..=24 {
+    for place in 1..=MOST_COMMITS {
         let Some(party) = run.entry(place) else {
             break;
         };
@@ -85,8 +88,8 @@ fn print_cells<S: Store>(rt: &impl Print, store: &S) -> io::Result<()> {
     Ok(())
 }
 
-// Carries the run to its end over a write-back layer, and gives the store below back.
-fn carry<S: Store>(rt: &impl Print, below: S) -> (S, io::Result<()>) {
+// The whole run over a write-back layer; gives the store below back.
+fn run_over<S: Store>(rt: &impl Print, below: S) -> (S, io::Result<()>) {
     let mut intake = Intake::new(WriteBack::new(below), RUN);
     let job = intake.admit(&PROGRAM).unwrap_or(0);
     let mut run = intake.seal();
@@ -102,7 +105,7 @@ fn print_run<S: Store>(rt: &impl Print, run: &mut Run<S>, job: u32) -> io::Resul
 
 fn main(rt: LibcRuntime) -> io::Result<()> {
     let mut words = [NUMBER];
-    let (table, printed) = carry(&rt, WordTable::new(&mut words));
+    let (table, printed) = run_over(&rt, WordTable::new(&mut words));
     printed?;
     print_cells(&rt, &table)
 }

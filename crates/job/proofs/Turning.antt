@@ -9,7 +9,7 @@ use Rattle.model.specs.Rules.{JobState, started}
 use Rattle.model.specs.declared.Rule.the-variants.{S3}
 use Rattle.model.specs.declared.Stage.the-variants.{Start}
 use Rattle.job.specs.Moves.{Moves}
-use Rattle.job.specs.declared.moves.Move.the-variants.{Goes}
+use Rattle.job.specs.declared.moves.Move.the-variants.{Applies}
 
-pub s3-moves : (C : List ℕ) (right : Option ℕ) (b : JobState) → b .stage ≡ Start → lowest any (b .writes) ≡ None → lowest any (b .reads) ≡ None → Moves C right b (started b) (Goes (record { rule = S3; cell = None }))
+pub s3-moves : (C : List ℕ) (right : Option ℕ) (b : JobState) → b .stage ≡ Start → lowest any (b .writes) ≡ None → lowest any (b .reads) ≡ None → Moves C right b (started b) (Applies (record { rule = S3; cell = None }))
 s3-moves C right b h e f s j hc hr = (rw (h, e, f), rw (h, e, f), rw h)

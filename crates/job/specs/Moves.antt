@@ -13,7 +13,7 @@ use Rattle.model.specs.declared.Rule.the-variants.{V3}
 use Rattle.model.specs.declared.Stage.the-variants as stage
 use Rattle.job.specs.Shape.{isDone}
 use Rattle.job.specs.declared.moves.Move.{Move}
-use Rattle.job.specs.declared.moves.Move.the-variants.{Rest, Goes, Takes, Commits}
+use Rattle.job.specs.declared.moves.Move.the-variants.{NoRule, Applies, Takes, Commits}
 
 -- The run where job j, now b, takes the right.
 abbrev pub taking : State → ℕ → JobState → State
@@ -31,8 +31,8 @@ taking s j b =
 
 -- In a run where job j is b, its turn makes it b′; only the run itself makes a job done.
 abbrev pub Comes : State → ℕ → JobState → JobState → Move → Type 0
-Comes s j b b′ Rest = (b′ ≡ b) × (turnOf s j (Some b) .next ≡ s) × (turnOf s j (Some b) .answer ≡ Ok None)
-Comes s j b b′ (Goes applied) = (turnOf s j (Some b) .next ≡ withJob s j b′) × (turnOf s j (Some b) .answer ≡ Ok (Some applied)) × (isDone (b′ .stage) ≡ isDone (b .stage))
+Comes s j b b′ NoRule = (b′ ≡ b) × (turnOf s j (Some b) .next ≡ s) × (turnOf s j (Some b) .answer ≡ Ok None)
+Comes s j b b′ (Applies applied) = (turnOf s j (Some b) .next ≡ withJob s j b′) × (turnOf s j (Some b) .answer ≡ Ok (Some applied)) × (isDone (b′ .stage) ≡ isDone (b .stage))
 Comes s j b b′ Takes = (turnOf s j (Some b) .next ≡ taking s j b′) × (turnOf s j (Some b) .answer ≡ Ok (Some (record { rule = V3; cell = None }))) × (isDone (b′ .stage) ≡ isDone (b .stage))
 Comes s j b b′ Commits = (b′ ≡ b) × (b .stage ≡ stage.Commit)
 

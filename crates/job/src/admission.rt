@@ -7,10 +7,12 @@ use model::Fault;
 use model::Refusal;
 use model::Step;
 
-// A run has at most so many jobs, a job so many steps, and registers are numbered up to this.
+// A run has at most so many jobs, a job so many steps and so many registers, numbered from 0.
 pub const MOST_JOBS: usize = 16;
 
 pub const MOST_STEPS: usize = 24;
+
+pub(crate) const REGISTERS: usize = 8;
 
 const LAST_REGISTER: u32 = 7;
 

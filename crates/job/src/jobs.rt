@@ -11,6 +11,7 @@ ghost use Rattle.model.specs.declared.Step.the-variants as step;
 ghost use Rattle.job.specs.Jobs.{jobOf};
 ghost use Rattle.job.specs.Moves.{Moves, WriteOf};
 use crate::admission::MOST_STEPS;
+use crate::admission::REGISTERS;
 use crate::admission::admission_fault;
 use crate::job::Job;
 use crate::moves::Move;
@@ -43,7 +44,7 @@ impl Job {
             program: program_of(steps),
             steps: steps.len(),
             stage: Stage::Start,
-            registers: [0; 8],
+            registers: [0; REGISTERS],
             reads: LogRow::empty(),
             writes: LogRow::empty(),
             marked: false,
@@ -59,7 +60,7 @@ impl Job {
             program: [Step::End; MOST_STEPS],
             steps: 1,
             stage: Stage::Start,
-            registers: [0; 8],
+            registers: [0; REGISTERS],
             reads: LogRow::empty(),
             writes: LogRow::empty(),
             marked: false,
@@ -93,11 +94,11 @@ impl Job {
             ) => self.jump(n, register, other, step),
             (Stage::At(n), Step::Wait, _) => self.wait(store, n),
             (Stage::At(n), Step::End, None) => self.end(n),
-            (Stage::At(_), Step::End, Some(_)) => Move::Rest,
+            (Stage::At(_), Step::End, Some(_)) => Move::NoRule,
             (Stage::Rollback, _, _) => self.to_start(),
             (Stage::Validate, _, _) => self.validate(store, right),
             (Stage::Commit, _, _) => Move::Commits,
-            (Stage::Done, _, _) => Move::Rest,
+            (Stage::Done, _, _) => Move::NoRule,
         }
     }
 

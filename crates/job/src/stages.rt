@@ -9,6 +9,7 @@ ghost use Rattle.model.specs.declared.Stage.the-variants.{Start, At, Validate, 
 ghost use Rattle.model.specs.declared.Step.the-variants as step;
 ghost use Rattle.job.specs.Jobs.{jobOf};
 ghost use Rattle.job.specs.Moves.{Moves};
+use crate::admission::REGISTERS;
 use crate::job::Job;
 use crate::moves::Move;
 use log::Log;
@@ -20,16 +21,16 @@ use model::Step;
 use store::Store;
 
 // The answer of a rule that names no cell, and of one that does.
-fn goes(rule: Rule) -> Move
-    ensures { λ r. ⌜ r ≡ Move.Goes (record { rule = rule; cell = None }) ⌝ }
+fn applies(rule: Rule) -> Move
+    ensures { λ r. ⌜ r ≡ Move.Applies (record { rule = rule; cell = None }) ⌝ }
 {
-    Move::Goes(Applied { rule, cell: None })
+    Move::Applies(Applied { rule, cell: None })
 }
 
-fn goes_at(rule: Rule, cell: u32) -> Move
-    ensures { λ r. ⌜ r ≡ Move.Goes (record { rule = rule; cell = Some cell }) ⌝ }
+fn applies_at(rule: Rule, cell: u32) -> Move
+    ensures { λ r. ⌜ r ≡ Move.Applies (record { rule = rule; cell = Some cell }) ⌝ }
 {
-    Move::Goes(Applied {
+    Move::Applies(Applied {
         rule,
         cell: Some(cell),
     })
@@ -67,17 +68,17 @@ impl Job {
         let writes = self.write_log();
         if let Some(cell) = writes.lowest() {
             self.writes = writes.remove(cell).into_row();
-            return goes_at(Rule::S1, cell);
+            return applies_at(Rule::S1, cell);
         }
         let reads = self.read_log();
         if let Some(cell) = reads.lowest() {
             self.reads = reads.remove(cell).into_row();
-            return goes_at(Rule::S2, cell);
+            return applies_at(Rule::S2, cell);
         }
-        self.registers = [0; 8];
+        self.registers = [0; REGISTERS];
         self.starts = self.starts.wrapping_add(1);
         self.stage = Stage::At(0);
-        goes(Rule::S3)
+        applies(Rule::S3)
     }
 
     pub(crate) fn to_start(&mut self) -> Move
@@ -85,7 +86,7 @@ impl Job {
         ensures { λ r. ⌜ ((C : List ℕ) (right : option.Option ℕ) → Moves C right (jobOf (now (self .entry))) (jobOf (now (self .exit))) r) ⌝ }
     {
         self.stage = Stage::Start;
-        goes(Rule::Rb)
+        applies(Rule::Rb)
     }
 
     // Puts a number into a register, and goes on to the next step.
@@ -106,18 +107,18 @@ impl Job {
     {
         if let Some(number) = self.write_log().number(cell) {
             self.load(n, register, number);
-            return goes_at(Rule::R1, cell);
+            return applies_at(Rule::R1, cell);
         }
         let reads = self.read_log();
         if let Some(number) = reads.number(cell) {
             self.load(n, register, number);
-            return goes_at(Rule::R2, cell);
+            return applies_at(Rule::R2, cell);
         }
         let number = number_at(store, cell);
         let reads = reads.put(cell, number).unwrap();
         self.load(n, register, number);
         self.reads = reads.into_row();
-        goes_at(Rule::R3, cell)
+        applies_at(Rule::R3, cell)
     }
 
     pub(crate) fn write(&mut self, n: u32, cell: u32, register: u32) -> Move
@@ -131,9 +132,9 @@ impl Job {
         self.writes = writes.into_row();
         self.stage = Stage::At(n + 1);
         if known {
-            goes_at(Rule::W1, cell)
+            applies_at(Rule::W1, cell)
         } else {
-            goes_at(Rule::W2, cell)
+            applies_at(Rule::W2, cell)
         }
     }
 
@@ -143,7 +144,7 @@ impl Job {
         ensures { λ r. ⌜ ((C : List ℕ) (right : option.Option ℕ) → Moves C right (jobOf (now (self .entry))) (jobOf (now (self .exit))) r) ⌝ }
     {
         self.load(n, register, number);
-        goes(Rule::P)
+        applies(Rule::P)
     }
 
     pub(crate) fn add(&mut self, n: u32, register: u32, other: u32) -> Move
@@ -154,7 +155,7 @@ impl Job {
         let sum = self.registers[register as usize]
             .wrapping_add(self.registers[other as usize]);
         self.load(n, register, sum);
-        goes(Rule::P)
+        applies(Rule::P)
     }
 
     pub(crate) fn subtract(&mut self, n: u32, register: u32, other: u32) -> Move
@@ -165,7 +166,7 @@ impl Job {
         let difference = self.registers[register as usize]
             .wrapping_sub(self.registers[other as usize]);
         self.load(n, register, difference);
-        goes(Rule::P)
+        applies(Rule::P)
     }
 
     pub(crate) fn jump(&mut self, n: u32, register: u32, other: u32, target: u32) -> Move
@@ -178,7 +179,7 @@ impl Job {
         } else {
             self.stage = Stage::At(n + 1);
         }
-        goes(Rule::P)
+        applies(Rule::P)
     }
 
     pub(crate) fn wait<S: Store>(&mut self, store: &S, n: u32) -> Move
@@ -189,9 +190,9 @@ impl Job {
         match self.read_log().lowest_changed(store) {
             Some(cell) => {
                 self.stage = Stage::Rollback;
-                goes_at(Rule::Rt, cell)
+                applies_at(Rule::Rt, cell)
             }
-            None => Move::Rest,
+            None => Move::NoRule,
         }
     }
 
@@ -202,7 +203,7 @@ impl Job {
     {
         self.marked = true;
         self.stage = Stage::Validate;
-        goes(Rule::E)
+        applies(Rule::E)
     }
 
     pub(crate) fn validate<S: Store>(&mut self, store: &S, right: Option<u32>) -> Move
@@ -211,22 +212,22 @@ impl Job {
     {
         if !self.marked {
             self.stage = Stage::Rollback;
-            return goes(Rule::V4);
+            return applies(Rule::V4);
         }
         let reads = self.read_log();
         if let Some(cell) = reads.lowest_current(store) {
             self.reads = reads.remove(cell).into_row();
-            return goes_at(Rule::V1, cell);
+            return applies_at(Rule::V1, cell);
         }
         if let Some(cell) = reads.lowest_changed(store) {
             self.reads = reads.remove(cell).into_row();
             self.marked = false;
             self.stage = Stage::Rollback;
-            return goes_at(Rule::V2, cell);
+            return applies_at(Rule::V2, cell);
         }
         if right.is_some() {
             self.stage = Stage::Rollback;
-            return goes(Rule::V4);
+            return applies(Rule::V4);
         }
         self.marked = false;
         self.stage = Stage::Commit;

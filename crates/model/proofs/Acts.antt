@@ -18,7 +18,7 @@ use Rattle.model.specs.Replay.{Note, Player, Play, playStep, playJob, afterRea
 use Rattle.model.specs.Rules.{JobState, CorrectionState, State, Event, Started, ReadCell, WroteCell, TookRight, SetCell, Joined, counted, placeOf, stepOf, stepCell, ifFree, otherMarked, inStage, withLogs, withMark, withRegisters, started, onward, loaded, logged, withJobs, withJob, unmark, unmarkIn, effect, happens}
 use Rattle.model.specs.Calls.{turn, turnOf}
 use Rattle.model.specs.Intake.{stops}
-use Rattle.model.specs.Law.{WellFormed, same, hear, isStart, isTaking, isSetting, Member}
+use Rattle.model.specs.Law.{WellFormed, same, readingsAfter, isStart, isTaking, isSetting, Member}
 use Rattle.model.specs.declared.Step.{Step}
 use Rattle.model.specs.declared.Step.the-variants.{Read, Write, Load, Add, Subtract, JumpIfLess, Wait, End}
 use Rattle.model.specs.declared.Stage.{Stage}
@@ -31,7 +31,7 @@ use Rattle.model.proofs.Basics.{by-bool, zero-one, at-put-same, at-put-other, 
 use Rattle.model.proofs.LogLaws.{Agrees, agrees-put, unchanged-agrees, unchanged-put, unchanged-remove, kept-remove, setAll-first, shorter, Sized, sized-none, sized-more, sized-put, sized-remove, Means, note, means-none, means-put}
 use Rattle.model.proofs.Follow.{Follows, follows-first, follow, comes-to, step-at, goes-on}
 use Rattle.model.proofs.Cases.{AtStep, IsRead, IsWrite, Computes, Facts, ruled, turn-cases}
-use Rattle.model.proofs.Views.{stir, tick, View, advance, same-self, AllBy, heard-other, asked-other, started-other}
+use Rattle.model.proofs.Views.{stir, tick, View, advance, same-self, AllBy, readings-other, requested-other, started-other}
 use Rattle.model.proofs.Invariant.{Scene, scene, player, finished, Tracks, Validating, Fresh, Stands, room, JobInv, Answers, CorrectionInv, Closed, Replays, Inv, Fair, load, jobLoad, correctionsLoad, remaining, spent, Kept, unchanged, stands-on, stands-unmarked, replays-on, replays-push}
 
 pub wraps : (n m : ℕ) → m ≡ n % 2 ^ 32 → counted m ≡ suc n % 2 ^ 32
@@ -77,16 +77,16 @@ module _ (programs : ℕ → List Step) (C₀ : List ℕ) where
       ((p : Party) → Member p (s .order) → same p q ≡ false) → Replays programs C₀ (advance v es) (s .order) (I .base)
   replays-still s v I q es m apart =
       replays-on programs C₀ v (advance v es) (s .order) (I .base)
-      (λ p k. heard-other q es m p (apart p k) (v .heard p))
-      (λ k n. asked-other q es m k (apart (Correction k) n) (v .scripts k))
+      (λ p k. readings-other q es m p (apart p k) (v .readings p))
+      (λ k n. requested-other q es m k (apart (Correction k) n) (v .scripts k))
       (I .replays)
 
   module _ (s : State) (v : View) (I : Inv programs C₀ s v) (i : ℕ) (b : JobState) (g : at (s .jobs) i ≡ Some b) where
     own : JobInv programs (scene s (I .base)) v i b
     own = I .jobs i b g
 
-    pub stood : (st : Stage) → b .stage ≡ st → Stands st (scene s (I .base)) i b (v .heard (Job i)) (v .stirred i)
-    stood st h = subst (λ x. Stands x (scene s (I .base)) i b (v .heard (Job i)) (v .stirred i)) h (own .stands)
+    pub stood : (st : Stage) → b .stage ≡ st → Stands st (scene s (I .base)) i b (v .readings (Job i)) (v .stirred i)
+    stood st h = subst (λ x. Stands x (scene s (I .base)) i b (v .readings (Job i)) (v .stirred i)) h (own .stands)
 
     not-committing : jobLoad b ≡ 25 → b .stage ≡ Commit → ⊥
     not-committing e h = let r : Sized 24 (b .writes) = subst (λ n. Sized n (b .writes)) (ap room h) (own .writes) in omega (arith, ap (λ z. load z (b .writes)) h, r .1)
@@ -99,9 +99,9 @@ module _ (programs : ℕ → List Step) (C₀ : List ℕ) where
         (rd : Sized (room (b′ .stage)) (b′ .reads)) (wr : Sized (room (b′ .stage)) (b′ .writes)) (st : b′ .starts ≡ advance v es .starts i % 2 ^ 32)
         (cost : spent es + jobLoad b′ ≤ jobLoad b) (fair : (j : ℕ) → Fair j (v .stirred j) es) where
       act : (g′ : Scene) (t n : ℕ) →
-          Stands (b′ .stage) g′ i b′ (advance v es .heard (Job i)) (advance v es .stirred i) →
-          ((j : ℕ) (x : JobState) → (i ≡ j → ⊥) → at (s .jobs) j ≡ Some x → Stands (x .stage) (scene s (I .base)) j x (v .heard (Job j)) (v .stirred j) →
-          Stands (x .stage) g′ j x (v .heard (Job j)) (advance v es .stirred j)) →
+          Stands (b′ .stage) g′ i b′ (advance v es .readings (Job i)) (advance v es .stirred i) →
+          ((j : ℕ) (x : JobState) → (i ≡ j → ⊥) → at (s .jobs) j ≡ Some x → Stands (x .stage) (scene s (I .base)) j x (v .readings (Job j)) (v .stirred j) →
+          Stands (x .stage) g′ j x (v .readings (Job j)) (advance v es .stirred j)) →
           ((h : ℕ) → g′ .right ≡ Some h → (x : JobState) × (at (putAt (s .jobs) i b′) h ≡ Some x) × (x .stage ≡ Commit)) →
           (g′ .right ≡ None → g′ .base ≡ g′ .cells) →
           Replays programs C₀ (advance v es) (g′ .order) (g′ .base) →
@@ -122,7 +122,7 @@ module _ (programs : ℕ → List Step) (C₀ : List ℕ) where
                 reads = x .reads;
                 writes = x .writes;
                 starts = x .starts ∙ ap (λ a. a % 2 ^ 32) (sym (started-other (Job i) es m k f (v .starts k)));
-                stands = subst (λ a. Stands (z .stage) g′ k z a (advance v es .stirred k)) (sym (heard-other (Job i) es m (Job k) f (v .heard (Job k)))) (others k z ne e (x .stands));
+                stands = subst (λ a. Stands (z .stage) g′ k z a (advance v es .stirred k)) (sym (readings-other (Job i) es m (Job k) f (v .readings (Job k)))) (others k z ne e (x .stands));
               });
           corrections = λ k f e.
               let x = I .corrections k f e in
@@ -130,8 +130,8 @@ module _ (programs : ℕ → List Step) (C₀ : List ℕ) where
                 reads = x .reads;
                 writes = x .writes;
                 answers = λ o.
-                    subst (λ a. Answers a (advance v es .heard (Correction k)) f) (sym (asked-other (Job i) es m k refl (v .scripts k)))
-                    (subst (λ a. Answers (v .scripts k) a f) (sym (heard-other (Job i) es m (Correction k) refl (v .heard (Correction k)))) (x .answers o));
+                    subst (λ a. Answers a (advance v es .readings (Correction k)) f) (sym (requested-other (Job i) es m k refl (v .scripts k)))
+                    (subst (λ a. Answers (v .scripts k) a f) (sym (readings-other (Job i) es m (Correction k) refl (v .readings (Correction k)))) (x .answers o));
               };
           holder = holds;
           rest = rests;
@@ -148,12 +148,12 @@ module _ (programs : ℕ → List Step) (C₀ : List ℕ) where
     quiet : (b′ : JobState) (es : List Event) → b′ .program ≡ b .program → Quiet i es →
         Sized (room (b′ .stage)) (b′ .reads) → Sized (room (b′ .stage)) (b′ .writes) → b′ .starts ≡ advance v es .starts i % 2 ^ 32 →
         jobLoad b ≡ 25 → jobLoad b′ ≡ 25 → ((j : ℕ) → Fair j (v .stirred j) es) →
-        Stands (b′ .stage) (scene s (I .base)) i b′ (advance v es .heard (Job i)) (advance v es .stirred i) →
+        Stands (b′ .stage) (scene s (I .base)) i b′ (advance v es .readings (Job i)) (advance v es .stirred i) →
         Kept programs C₀ v s (withJob s i b′) es
     quiet b′ es pe m rd wr st e e′ fair stands =
         act b′ es pe (m .by) rd wr st (omega (arith, m .costs, e, e′)) fair (scene s (I .base)) (s .takings) (s .settings) stands
         (λ j x ne k y.
-        stands-on (x .stage) (scene s (I .base)) (scene s (I .base)) j x (v .heard (Job j)) (v .stirred j) (advance v es .stirred j)
+        stands-on (x .stage) (scene s (I .base)) (scene s (I .base)) j x (v .readings (Job j)) (v .stirred j) (advance v es .stirred j)
         (λ z. refl) (inr (m .stirs j (v .stirred j) (ne-eqb j i (λ q. ne (sym q))), refl, λ z. z)) (λ z. (z, refl, refl)) (λ z. z) y)
         (λ h r.
         let x = I .holder h r in
@@ -171,7 +171,7 @@ module _ (programs : ℕ → List Step) (C₀ : List ℕ) where
     -- Nothing is said.
     silent : (b′ : JobState) → b′ .program ≡ b .program → b′ .starts ≡ b .starts →
         Sized (room (b′ .stage)) (b′ .reads) → Sized (room (b′ .stage)) (b′ .writes) → jobLoad b ≡ 25 → jobLoad b′ ≡ 25 →
-        Stands (b′ .stage) (scene s (I .base)) i b′ (v .heard (Job i)) (v .stirred i) → Kept programs C₀ v s (withJob s i b′) []
+        Stands (b′ .stage) (scene s (I .base)) i b′ (v .readings (Job i)) (v .stirred i) → Kept programs C₀ v s (withJob s i b′) []
     silent b′ pe se rd wr e e′ stands = quiet b′ [] pe (quiet-none i) rd wr (se ∙ own .starts) e e′ (λ j. tt) stands
 
     abbrev pub Keeps : Step → ℕ → Rule → Type 0
@@ -187,12 +187,12 @@ module _ (programs : ℕ → List Step) (C₀ : List ℕ) where
     do-S1 : (st : Step) (c : ℕ) → b .stage ≡ Start → Keeps st c S1
     do-S1 st c h =
         silent (withLogs b (b .reads) (remove (b .writes) c)) refl refl (own .reads) (sized-remove (room (b .stage)) c (b .writes) (own .writes)) (loaded-25 Start h refl) (ap (λ z. load z (remove (b .writes) c)) h)
-        (subst (λ z. Stands z (scene s (I .base)) i (withLogs b (b .reads) (remove (b .writes) c)) (v .heard (Job i)) (v .stirred i)) (sym h) (stood Start h))
+        (subst (λ z. Stands z (scene s (I .base)) i (withLogs b (b .reads) (remove (b .writes) c)) (v .readings (Job i)) (v .stirred i)) (sym h) (stood Start h))
 
     do-S2 : (st : Step) (c : ℕ) → b .stage ≡ Start → Keeps st c S2
     do-S2 st c h =
         silent (withLogs b (remove (b .reads) c) (b .writes)) refl refl (sized-remove (room (b .stage)) c (b .reads) (own .reads)) (own .writes) (loaded-25 Start h refl) (loaded-25 Start h refl)
-        (subst (λ z. Stands z (scene s (I .base)) i (withLogs b (remove (b .reads) c) (b .writes)) (v .heard (Job i)) (v .stirred i)) (sym h) (stood Start h))
+        (subst (λ z. Stands z (scene s (I .base)) i (withLogs b (remove (b .reads) c) (b .writes)) (v .readings (Job i)) (v .stirred i)) (sym h) (stood Start h))
 
     do-S3 : (st : Step) (c : ℕ) → b .stage ≡ Start → b .writes ≡ [] → b .reads ≡ [] → Keeps st c S3
     do-S3 st c h w r =
@@ -200,12 +200,12 @@ module _ (programs : ℕ → List Step) (C₀ : List ℕ) where
         (wraps (v .starts i) (b .starts) (own .starts) ∙ ap (λ z. cond z (suc (v .starts i)) (v .starts i) % 2 ^ 32) (sym (same-self (Job i))))
         (loaded-25 Start h refl) refl
         (λ j. ((λ t. let q : i ≡ j = sym (eqb-true j i t) in subst (λ n. v .stirred n ≡ true) q (stood Start h)), tt))
-        (let t : cond (same (Job i) (Job i)) [] (v .heard (Job i)) ≡ [] = ap (λ x. cond x [] (v .heard (Job i))) (same-self (Job i)) in
+        (let t : cond (same (Job i) (Job i)) [] (v .readings (Job i)) ≡ [] = ap (λ x. cond x [] (v .readings (Job i))) (same-self (Job i)) in
         let F : Follows (b .program) (b .reads) beginning = subst (λ rd. Follows (b .program) rd beginning) (sym r) (follows-first (b .program) (own .wellFormed .someStep)) in (
           (
             [],
             subst (λ l. Means l []) (sym w) means-none,
-            subst (λ k. Follows (b .program) (b .reads) k) (λ j. record { place = 0; registers = noRegisters; notes = []; heard = sym t j }) F,
+            subst (λ k. Follows (b .program) (b .reads) k) (λ j. record { place = 0; registers = noRegisters; notes = []; readings = sym t j }) F,
           ),
           inr (ap (lowest (changed (s .cells))) r),
         ))
@@ -215,7 +215,7 @@ module _ (programs : ℕ → List Step) (C₀ : List ℕ) where
       n : ℕ
       n = placeOf (b .stage)
 
-      here : Stands (At (placeOf (b .stage))) (scene s (I .base)) i b (v .heard (Job i)) (v .stirred i)
+      here : Stands (At (placeOf (b .stage))) (scene s (I .base)) i b (v .readings (Job i)) (v .stirred i)
       here = stood (At (placeOf (b .stage))) (h .0)
 
       the-step : nth (b .program) (placeOf (b .stage)) ≡ Some st
@@ -247,7 +247,7 @@ module _ (programs : ℕ → List Step) (C₀ : List ℕ) where
         let k : ℕ = placeOf (b .stage) in
         let x = here (Read r a) h in
         let notes : List Note = x .0 .0 in
-        let t : v .heard (Job i) ++ w ∷ [] ≡ cond (same (Job i) (Job i)) (v .heard (Job i) ++ w ∷ []) (v .heard (Job i)) = sym (ap (λ z. cond z (v .heard (Job i) ++ w ∷ []) (v .heard (Job i))) (same-self (Job i))) in
+        let t : v .readings (Job i) ++ w ∷ [] ≡ cond (same (Job i) (Job i)) (v .readings (Job i) ++ w ∷ []) (v .readings (Job i)) = sym (ap (λ z. cond z (v .readings (Job i) ++ w ∷ []) (v .readings (Job i))) (same-self (Job i))) in
         let e = the-step (Read r a) h in
         let on = goes-on (b .program) k (b .registers) (Read r a) (own .wellFormed) e refl in
         quiet (withLogs (loaded b (Read r a) w) rd (b .writes)) (ReadCell (Job i) a w ∷ []) refl (quiet-read i a w)
@@ -255,12 +255,12 @@ module _ (programs : ℕ → List Step) (C₀ : List ℕ) where
           (
             notes,
             x .0 .1,
-            follow (b .program) (b .reads) rd (player k b notes (v .heard (Job i))) _ (Read r a) (λ C. afterRead C r a (player k b notes (v .heard (Job i)))) (x .0 .2) e (λ C rest. refl) (on .0) (on .1)
+            follow (b .program) (b .reads) rd (player k b notes (v .readings (Job i))) _ (Read r a) (λ C. afterRead C r a (player k b notes (v .readings (Job i)))) (x .0 .2) e (λ C rest. refl) (on .0) (on .1)
                 (λ C ag.
                 let u : noted C notes a ≡ w = x .0 .1 .finds C a ∙ step C ag .1 in (
                   step C ag .0,
-                  (λ j. record { place = suc k; registers = set (b .registers) r (u j); notes = notes; heard = v .heard (Job i) ++ u j ∷ [] })
-                      ∙ (λ j. record { place = suc k; registers = set (b .registers) r w; notes = notes; heard = t j }),
+                  (λ j. record { place = suc k; registers = set (b .registers) r (u j); notes = notes; readings = v .readings (Job i) ++ u j ∷ [] })
+                      ∙ (λ j. record { place = suc k; registers = set (b .registers) r w; notes = notes; readings = t j }),
                 )),
           ),
           elim (x .1) [ inl y ↦ inl y | inr y ↦ inr (keep y) ],
@@ -295,7 +295,7 @@ module _ (programs : ℕ → List Step) (C₀ : List ℕ) where
           (
             note a w ∷ notes,
             means-put (b .writes) notes a w (writes-here (Write a r) h .0) (x .0 .1),
-            follow (b .program) (b .reads) (b .reads) (player k b notes (v .heard (Job i))) _ (Write a r) (λ C. afterWrite a r (player k b notes (v .heard (Job i)))) (x .0 .2) e (λ C rest. refl) (on .0) (on .1)
+            follow (b .program) (b .reads) (b .reads) (player k b notes (v .readings (Job i))) _ (Write a r) (λ C. afterWrite a r (player k b notes (v .readings (Job i)))) (x .0 .2) e (λ C rest. refl) (on .0) (on .1)
                 (λ C ag. (ag, refl)),
           ),
           x .1,
@@ -315,7 +315,7 @@ module _ (programs : ℕ → List Step) (C₀ : List ℕ) where
           (
             notes,
             x .0 .1,
-            follow (b .program) (b .reads) (b .reads) (player p b notes (v .heard (Job i))) _ st (λ C. afterComputing st (player p b notes (v .heard (Job i)))) (x .0 .2) e (λ C rest. goes .1 C _ rest) (on .0) (on .1)
+            follow (b .program) (b .reads) (b .reads) (player p b notes (v .readings (Job i))) _ st (λ C. afterComputing st (player p b notes (v .readings (Job i)))) (x .0 .2) e (λ C rest. goes .1 C _ rest) (on .0) (on .1)
                 (λ C ag. (ag, refl)),
           ),
           x .1,
@@ -339,14 +339,14 @@ module _ (programs : ℕ → List Step) (C₀ : List ℕ) where
     do-E : (st : Step) (c : ℕ) → AtStep b End → s .right ≡ None → Keeps st c E
     do-E st c h r =
         let x = here End h in
-        let p : Player = player (placeOf (b .stage)) b (x .0 .0) (v .heard (Job i)) in
+        let p : Player = player (placeOf (b .stage)) b (x .0 .0) (v .readings (Job i)) in
         silent (withMark (inStage b Validate) true) refl refl
         (sized-more (placeOf (b .stage)) 24 (b .reads) (place-24 End h) (reads-here End h)) (sized-more (placeOf (b .stage)) 24 (b .writes) (place-24 End h) (writes-here End h)) (busy End h) refl (
           (λ m. (
             b .reads,
             (λ D ag.
                 comes-to (b .program) (b .reads) p (λ C. ends C p) End (x .0 .2) (the-step End h) (λ C rest. refl) D ag
-                ∙ ap (finished (v .heard (Job i))) (x .0 .1 .sets D)),
+                ∙ ap (finished (v .readings (Job i))) (x .0 .1 .sets D)),
             (λ a w e. inl e),
           )),
           elim (x .1) [ inl y ↦ inl y | inr y ↦ inr (refl, r, y) ],
@@ -358,7 +358,7 @@ module _ (programs : ℕ → List Step) (C₀ : List ℕ) where
         let z = roomy Validate h refl in
         let b′ : JobState = withLogs b (remove (b .reads) c) (b .writes) in
         silent b′ refl refl (sized-remove (room (b .stage)) c (b .reads) (own .reads)) (own .writes) (loaded-25 Validate h refl) (loaded-25 Validate h refl)
-        (subst (λ y. Stands y (scene s (I .base)) i b′ (v .heard (Job i)) (v .stirred i)) (sym h) (
+        (subst (λ y. Stands y (scene s (I .base)) i b′ (v .readings (Job i)) (v .stirred i)) (sym h) (
           (λ m. let y = x .0 m in (y .0, y .1, λ a w e. elim (y .2 a w e) [ inl k ↦ kept-remove (s .cells) (b .reads) c (z .0 .0) f a w k | inr k ↦ inr k ])),
           elim (x .1) [ inl y ↦ inl y | inr y ↦ inr (y .0, y .1, unchanged-remove (s .cells) (b .reads) c (y .2)) ],
         ))
@@ -398,7 +398,7 @@ module _ (programs : ℕ → List Step) (C₀ : List ℕ) where
         (record { cells = s .cells; right = Some i; base = I .base; order = s .order }) (counted (s .takings)) (s .settings)
         (refl, ap (playJob (b .program)) be ∙ x .1 (s .cells) ag)
         (λ j y ne k st′.
-        stands-on (y .stage) (scene s (I .base)) _ j y (v .heard (Job j)) (v .stirred j) (advance v es .stirred j)
+        stands-on (y .stage) (scene s (I .base)) _ j y (v .readings (Job j)) (v .stirred j) (advance v es .stirred j)
         (λ q. refl) (inl (ap (λ t. cond t (v .stirred j) true) (ne-eqb j i (λ q. ne (sym q))))) (λ q. zero-one (cc)) (λ q. q) st′)
         (λ k q. holds-own b′ refl k (cc))
         (λ q. zero-one (cc))
@@ -422,10 +422,10 @@ module _ (programs : ℕ → List Step) (C₀ : List ℕ) where
         let l′ : jobLoad b′ ≡ length (remove (b .writes) c) = ap (λ z. load z (remove (b .writes) c)) h in
         act b′ es refl (refl, tt) (own .reads) (sized-remove (room (b .stage)) c (b .writes) (own .writes)) (own .starts) (omega (arith, l, l′, shorter (b .writes) c f)) (λ j. (tt, tt))
         (record { cells = D; right = s .right; base = I .base; order = s .order }) (s .takings) (counted (s .settings))
-        (subst (λ z. Stands z (record { cells = D; right = s .right; base = I .base; order = s .order }) i b′ (v .heard (Job i)) (advance v es .stirred i)) (sym h)
-        (r, x .1 ∙ ap (finished (v .heard (Job i))) (sym (setAll-first (b .writes) (s .cells) c f))))
+        (subst (λ z. Stands z (record { cells = D; right = s .right; base = I .base; order = s .order }) i b′ (v .readings (Job i)) (advance v es .stirred i)) (sym h)
+        (r, x .1 ∙ ap (finished (v .readings (Job i))) (sym (setAll-first (b .writes) (s .cells) c f))))
         (λ j y ne k st′.
-        stands-on (y .stage) (scene s (I .base)) _ j y (v .heard (Job j)) (v .stirred j) (advance v es .stirred j)
+        stands-on (y .stage) (scene s (I .base)) _ j y (v .readings (Job j)) (v .stirred j) (advance v es .stirred j)
         (λ m. let q : y .marked ≡ false = clear j y ne k in zero-one (cc))
         (inl (ap (λ t. cond t (v .stirred j) true) (ne-eqb j i (λ q. ne (sym q)))))
         (λ m. let q : i ≡ j = cc in absurd (ne q)) (λ q. q) st′)
@@ -442,13 +442,13 @@ module _ (programs : ℕ → List Step) (C₀ : List ℕ) where
         let es : List Event = Joined (Job i) ∷ [] in
         let b′ : JobState = inStage b Done in
         let r : s .right ≡ Some i = x .0 in
-        let o : playJob (programs i) (I .base) ≡ finished (v .heard (Job i)) (s .cells) =
-        ap (λ p. playJob p (I .base)) (sym (own .program)) ∙ (x .1 ∙ ap (λ l. finished (v .heard (Job i)) (setAll l (s .cells))) f) in
+        let o : playJob (programs i) (I .base) ≡ finished (v .readings (Job i)) (s .cells) =
+        ap (λ p. playJob p (I .base)) (sym (own .program)) ∙ (x .1 ∙ ap (λ l. finished (v .readings (Job i)) (setAll l (s .cells))) f) in
         act b′ es refl (refl, tt) (z .0) (z .1) (own .starts) (omega arith) (λ j. (tt, tt))
         (record { cells = s .cells; right = None; base = s .cells; order = s .order ++ Job i ∷ [] }) (s .takings) (s .settings)
         (member-last (Job i) (s .order))
         (λ j y ne k st′.
-        stands-on (y .stage) (scene s (I .base)) _ j y (v .heard (Job j)) (v .stirred j) (advance v es .stirred j)
+        stands-on (y .stage) (scene s (I .base)) _ j y (v .readings (Job j)) (v .stirred j) (advance v es .stirred j)
         (λ m. refl) (inr (refl, refl, λ q. refl)) (λ q. let u : i ≡ j = cc in absurd (ne u)) (member-left (Job j) (s .order) (Job i ∷ [])) st′)
         (λ k q. zero-one (cc))
         (λ q. refl)
@@ -474,7 +474,7 @@ module _ (programs : ℕ → List Step) (C₀ : List ℕ) where
             reads = y .reads;
             writes = y .writes;
             starts = y .starts;
-            stands = stands-unmarked (x .stage) (scene s (I .base)) c x (v .heard (Job c)) (v .stirred c) (inr nr) (y .stands);
+            stands = stands-unmarked (x .stage) (scene s (I .base)) c x (v .readings (Job c)) (v .stirred c) (inr nr) (y .stands);
           })
           (λ k z ne f. I .jobs k z f);
       corrections = I .corrections;

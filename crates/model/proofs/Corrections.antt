@@ -25,7 +25,7 @@ use Rattle.model.specs.declared.Party.{Party}
 use Rattle.model.specs.declared.Party.the-variants.{Job, Correction}
 use Rattle.model.proofs.Basics.{by-bool, by-cond, zero-one, at-put-same, at-put-other, each-put, at-append-old, at-append-cases, at-length, at-map, at-map-to, member-left, member-push, sum, sum-put, sum-push, length-put}
 use Rattle.model.proofs.LogLaws.{Agrees, agrees-put, unchanged-agrees, Sized, sized-none, sized-more, sized-put, sized-put-old, Means, note, means-none, means-put}
-use Rattle.model.proofs.Views.{stir, tick, ticked, View, advance, same-self, AllBy, heard-other, asked-other, started-other, filing, filing-by, filing-heard, filing-asked, filing-stirs, filing-takes, filing-sets}
+use Rattle.model.proofs.Views.{stir, tick, ticked, View, advance, same-self, AllBy, readings-other, requested-other, started-other, filing, filing-by, filing-readings, filing-requested, filing-stirs, filing-takes, filing-sets}
 use Rattle.model.proofs.Invariant.{Scene, scene, finished, Stands, JobInv, Answers, CorrectionInv, Closed, Replays, Inv, Fair, jobLoad, correctionLoad, correctionsLoad, remaining, spent, Kept, unchanged, stands-on, stands-unmarked, replays-on, replays-push}
 use Rattle.model.proofs.Acts.{wraps, replays-still}
 
@@ -62,11 +62,11 @@ still-closed bs fs k f f′ g l (Correction n) x =
     (x .0, at-put-other fs k n f′ (λ q. eqb-false n k d (sym q)) ∙ x .1, x .2)
 
 -- A correction of which nothing new is said.
-answers-on : (v w : View) (k : ℕ) (f : CorrectionState) → w .heard (Correction k) ≡ v .heard (Correction k) → w .scripts k ≡ v .scripts k → CorrectionInv v k f → CorrectionInv w k f
+answers-on : (v w : View) (k : ℕ) (f : CorrectionState) → w .readings (Correction k) ≡ v .readings (Correction k) → w .scripts k ≡ v .scripts k → CorrectionInv v k f → CorrectionInv w k f
 answers-on v w k f a q x = record {
   reads = x .reads;
   writes = x .writes;
-  answers = λ o. subst (λ z. Answers z (w .heard (Correction k)) f) (sym q) (subst (λ z. Answers (v .scripts k) z f) (sym a) (x .answers o));
+  answers = λ o. subst (λ z. Answers z (w .readings (Correction k)) f) (sym q) (subst (λ z. Answers (v .scripts k) z f) (sym a) (x .answers o));
 }
 
 requests-append : (C : List ℕ) (p : Player) (xs : List Request) (q : Request) → requests C p (xs ++ q ∷ []) ≡ request C (requests C p xs) q
@@ -98,13 +98,13 @@ module _ (programs : ℕ → List Step) (C₀ : List ℕ) where
             reads = x .reads;
             writes = x .writes;
             starts = x .starts ∙ ap (λ a. a % 2 ^ 32) (sym (started-other (Correction k) es m j refl (v .starts j)));
-            stands = subst (λ t. Stands (b .stage) (scene s (I .base)) j b t (advance v es .stirred j)) (sym (heard-other (Correction k) es m (Job j) refl (v .heard (Job j))))
-                (subst (λ t. Stands (b .stage) (scene s (I .base)) j b (v .heard (Job j)) t) (sym (stirs j (v .stirred j))) (x .stands));
+            stands = subst (λ t. Stands (b .stage) (scene s (I .base)) j b t (advance v es .stirred j)) (sym (readings-other (Correction k) es m (Job j) refl (v .readings (Job j))))
+                (subst (λ t. Stands (b .stage) (scene s (I .base)) j b (v .readings (Job j)) t) (sym (stirs j (v .stirred j))) (x .stands));
           };
       corrections = each-put (CorrectionInv (advance v es)) (s .corrections) k f f′ g own
           (λ n z ne e.
           let d : same (Correction n) (Correction k) ≡ false = ne-eqb n k (λ q. ne (sym q)) in
-          answers-on v (advance v es) n z (heard-other (Correction k) es m (Correction n) d (v .heard (Correction n))) (asked-other (Correction k) es m n d (v .scripts n)) (I .corrections n z e));
+          answers-on v (advance v es) n z (readings-other (Correction k) es m (Correction n) d (v .readings (Correction n))) (requested-other (Correction k) es m n d (v .scripts n)) (I .corrections n z e));
       holder = I .holder;
       rest = I .rest;
       replays = replays-still programs C₀ s v I (Correction k) es m (λ p n. not-closed (s .jobs) (s .corrections) k f g l p (I .closed p n));
@@ -165,14 +165,14 @@ module _ (programs : ℕ → List Step) (C₀ : List ℕ) where
             answers = λ o. (
               [],
               means-none,
-              λ C ag. ap (λ z. requests C beginning (cond z [] (v .scripts n))) d ∙ (λ i. record { place = 0; registers = noRegisters; notes = []; heard = cond (sym d i) [] (v .heard (Correction n)) }),
+              λ C ag. ap (λ z. requests C beginning (cond z [] (v .scripts n))) d ∙ (λ i. record { place = 0; registers = noRegisters; notes = []; readings = cond (sym d i) [] (v .readings (Correction n)) }),
             );
           }
 
       own : (n : ℕ) (f : CorrectionState) → (at (s .corrections) n ≡ Some f) ⊎ ((n ≡ suc (length (s .corrections))) × (correction true [] [] ≡ f)) → CorrectionInv (advance v es) n f
       own n f (inl e) =
           let d : same (Correction n) (Correction k) ≡ false = is-new n f e in
-          answers-on v (advance v es) n f (heard-other (Correction k) es (refl, tt) (Correction n) d (v .heard (Correction n))) (asked-other (Correction k) es (refl, tt) n d (v .scripts n)) (I .corrections n f e)
+          answers-on v (advance v es) n f (readings-other (Correction k) es (refl, tt) (Correction n) d (v .readings (Correction n))) (requested-other (Correction k) es (refl, tt) n d (v .scripts n)) (I .corrections n f e)
       own n f (inr p) = subst (CorrectionInv (advance v es) n) (p .1) (first n (p .0))
 
   module _ (s : State) (v : View) (I : Inv programs C₀ s v) (k : ℕ) (f : CorrectionState) (g : at (s .corrections) k ≡ Some f) (l : f .isOpen ≡ true) where
@@ -186,9 +186,9 @@ module _ (programs : ℕ → List Step) (C₀ : List ℕ) where
         Kept programs C₀ v s (readGives s k f c w rd .next) (ReadCell (Correction k) c w ∷ [])
     read-on c w rd sized step =
         let es : List Event = ReadCell (Correction k) c w ∷ [] in
-        let heard : List ℕ = v .heard (Correction k) in
+        let readings : List ℕ = v .readings (Correction k) in
         let a = own .answers l in
-        let t : cond (same (Correction k) (Correction k)) (heard ++ w ∷ []) heard ≡ heard ++ w ∷ [] = ap (λ z. cond z (heard ++ w ∷ []) heard) self in
+        let t : cond (same (Correction k) (Correction k)) (readings ++ w ∷ []) readings ≡ readings ++ w ∷ [] = ap (λ z. cond z (readings ++ w ∷ []) readings) self in
         let q : cond (same (Correction k) (Correction k)) (v .scripts k ++ Reads c ∷ []) (v .scripts k) ≡ v .scripts k ++ Reads c ∷ [] = ap (λ z. cond z (v .scripts k ++ Reads c ∷ []) (v .scripts k)) self in
         act s v I k f (correction true rd (f .writes)) es g l (refl, tt) (λ j acc. refl) (λ n. refl) (λ n. refl) refl (λ j. (tt, tt))
         (record {
@@ -201,8 +201,8 @@ module _ (programs : ℕ → List Step) (C₀ : List ℕ) where
                 ap (requests C beginning) q
                 ∙ (requests-append C beginning (v .scripts k) (Reads c)
                 ∙ (ap (λ p. request C p (Reads c)) (a .2 C (step C ag .0))
-                ∙ ((λ i. record { place = 0; registers = noRegisters; notes = a .0; heard = heard ++ (a .1 .finds C c ∙ step C ag .1) i ∷ [] })
-                ∙ (λ i. record { place = 0; registers = noRegisters; notes = a .0; heard = sym t i })))),
+                ∙ ((λ i. record { place = 0; registers = noRegisters; notes = a .0; readings = readings ++ (a .1 .finds C c ∙ step C ag .1) i ∷ [] })
+                ∙ (λ i. record { place = 0; registers = noRegisters; notes = a .0; readings = sym t i })))),
           );
         })
 
@@ -254,11 +254,11 @@ module _ (programs : ℕ → List Step) (C₀ : List ℕ) where
         jobs = λ j z e. job-after j z (at-map unmark (s .jobs) j z e);
         corrections = each-put (CorrectionInv w) (s .corrections) k f f′ g
             (record { reads = own .reads; writes = own .writes; answers = λ o. zero-one (cc) })
-            (λ n z ne e. answers-on v w n z (filing-heard k (Correction n) (v .heard (Correction n)) (f .writes)) (filing-asked k n (v .scripts n) (f .writes)) (I .corrections n z e));
+            (λ n z ne e. answers-on v w n z (filing-readings k (Correction n) (v .readings (Correction n)) (f .writes)) (filing-requested k n (v .scripts n) (f .writes)) (I .corrections n z e));
         holder = λ h e. zero-one (cc);
         rest = λ e. refl;
         replays = replays-on programs C₀ v w (s .order ++ Correction k ∷ []) D
-            (λ p m. filing-heard k p (v .heard p) (f .writes)) (λ n m. filing-asked k n (v .scripts n) (f .writes))
+            (λ p m. filing-readings k p (v .readings p) (f .writes)) (λ n m. filing-requested k n (v .scripts n) (f .writes))
             (replays-push programs C₀ v (s .order) (Correction k) (I .base) D (I .replays) played);
         closed = λ p m. closed-after p (member-push p (Correction k) (s .order) m);
         takings = wraps (v .takings) (s .takings) (I .takings) ∙ ap (λ a. a % 2 ^ 32) (sym (filing-takes k (suc (v .takings)) (f .writes)));
@@ -285,23 +285,23 @@ module _ (programs : ℕ → List Step) (C₀ : List ℕ) where
         base-is : I .base ≡ s .cells
         base-is = I .rest r
 
-        played : playCorrection (v .scripts k) (I .base) ≡ finished (v .heard (Correction k)) D
+        played : playCorrection (v .scripts k) (I .base) ≡ finished (v .readings (Correction k)) D
         played =
             let a = own .answers l in
             ap (playCorrection (v .scripts k)) base-is
             ∙ (ap (ends (s .cells)) (a .2 (s .cells) (unchanged-agrees (s .cells) (f .reads) d))
-            ∙ ap (finished (v .heard (Correction k))) (a .1 .sets (s .cells)))
+            ∙ ap (finished (v .readings (Correction k))) (a .1 .sets (s .cells)))
 
         g′ : Scene
         g′ = record { cells = setAll (f .writes) (s .cells); right = None; base = setAll (f .writes) (s .cells); order = s .order ++ Correction k ∷ [] }
 
-        stands-after : (j : ℕ) (x : JobState) → at (s .jobs) j ≡ Some x → Stands (x .stage) g′ j (unmark x) (v .heard (Job j)) true
+        stands-after : (j : ℕ) (x : JobState) → at (s .jobs) j ≡ Some x → Stands (x .stage) g′ j (unmark x) (v .readings (Job j)) true
         stands-after j x e =
             let g0 : Scene = scene s (I .base) in
-            let a : Stands (x .stage) g0 j x (v .heard (Job j)) true =
-            stands-on (x .stage) g0 g0 j x (v .heard (Job j)) (v .stirred j) true (λ m. refl) (inl refl) (λ q. (q, refl, refl)) (λ m. m) (I .jobs j x e .stands) in
-            stands-on (x .stage) g0 g′ j (unmark x) (v .heard (Job j)) true true (λ m. zero-one (cc)) (inl refl) (λ q. zero-one (cc)) (member-left (Job j) (s .order) (Correction k ∷ []))
-            (stands-unmarked (x .stage) g0 j x (v .heard (Job j)) true (inl refl) a)
+            let a : Stands (x .stage) g0 j x (v .readings (Job j)) true =
+            stands-on (x .stage) g0 g0 j x (v .readings (Job j)) (v .stirred j) true (λ m. refl) (inl refl) (λ q. (q, refl, refl)) (λ m. m) (I .jobs j x e .stands) in
+            stands-on (x .stage) g0 g′ j (unmark x) (v .readings (Job j)) true true (λ m. zero-one (cc)) (inl refl) (λ q. zero-one (cc)) (member-left (Job j) (s .order) (Correction k ∷ []))
+            (stands-unmarked (x .stage) g0 j x (v .readings (Job j)) true (inl refl) a)
 
         job-after : (j : ℕ) (z : JobState) → (x : JobState) × (at (s .jobs) j ≡ Some x) × (unmark x ≡ z) → JobInv programs g′ w j z
         job-after j z p =
@@ -312,8 +312,8 @@ module _ (programs : ℕ → List Step) (C₀ : List ℕ) where
               reads = x .reads;
               writes = x .writes;
               starts = x .starts ∙ ap (λ a. a % 2 ^ 32) (sym (started-other (Correction k) (filing k (f .writes)) (filing-by k (f .writes)) j refl (v .starts j)));
-              stands = subst (λ t. Stands (p .0 .stage) g′ j (unmark (p .0)) t (w .stirred j)) (sym (filing-heard k (Job j) (v .heard (Job j)) (f .writes)))
-                  (subst (λ t. Stands (p .0 .stage) g′ j (unmark (p .0)) (v .heard (Job j)) t) (sym (filing-stirs k j (f .writes))) (stands-after j (p .0) (p .1)));
+              stands = subst (λ t. Stands (p .0 .stage) g′ j (unmark (p .0)) t (w .stirred j)) (sym (filing-readings k (Job j) (v .readings (Job j)) (f .writes)))
+                  (subst (λ t. Stands (p .0 .stage) g′ j (unmark (p .0)) (v .readings (Job j)) t) (sym (filing-stirs k j (f .writes))) (stands-after j (p .0) (p .1)));
             })
 
         closed-old : (p : Party) → Closed (s .jobs) (s .corrections) p → Closed (map unmark (s .jobs)) (putAt (s .corrections) k f′) p

@@ -34,20 +34,20 @@ abbrev pub scene : State → List ℕ → Scene
 scene s base = record { cells = s .cells; right = s .right; base = base; order = s .order }
 
 abbrev pub player : ℕ → JobState → List Note → List ℕ → Player
-player n b notes heard = record { place = n; registers = b .registers; notes = notes; heard = heard }
+player n b notes readings = record { place = n; registers = b .registers; notes = notes; readings = readings }
 
 abbrev pub finished : List ℕ → List ℕ → Play
-finished heard cells = record { heard = heard; ended = true; cells = cells }
+finished readings cells = record { readings = readings; ended = true; cells = cells }
 
 -- The job stands where a player would, on all cells that agree with its read log.
 abbrev pub Tracks : ℕ → JobState → List ℕ → Type 0
-Tracks n b heard = (notes : List Note) × Means (b .writes) notes × Follows (b .program) (b .reads) (player n b notes heard)
+Tracks n b readings = (notes : List Note) × Means (b .writes) notes × Follows (b .program) (b .reads) (player n b notes readings)
 
 -- Played on cells that agree with some log the job ends, and each entry of that log is still in the read log or current.
 abbrev pub Validating : List ℕ → JobState → List ℕ → Type 0
-Validating C b heard =
+Validating C b readings =
     (log : Log)
-    × ((D : List ℕ) → Agrees log D → playJob (b .program) D ≡ finished heard (setAll (b .writes) D))
+    × ((D : List ℕ) → Agrees log D → playJob (b .program) D ≡ finished readings (setAll (b .writes) D))
     × ((a v : ℕ) → find log a ≡ Some v → (find (b .reads) a ≡ Some v) ⊎ (cellOf C a ≡ v))
 
 -- Nothing that the job read has changed.
@@ -55,13 +55,13 @@ abbrev pub Fresh : List ℕ → JobState → Type 0
 Fresh C b = lowest (changed C) (b .reads) ≡ None
 
 abbrev pub Stands : Stage → Scene → ℕ → JobState → List ℕ → Bool → Type 0
-Stands Start g j b heard stirred = stirred ≡ true
-Stands (At n) g j b heard stirred = Tracks n b heard × ((stirred ≡ true) ⊎ Fresh (g .cells) b)
-Stands Rollback g j b heard stirred = stirred ≡ true
-Stands Validate g j b heard stirred =
-    (b .marked ≡ true → Validating (g .cells) b heard) × ((stirred ≡ true) ⊎ ((b .marked ≡ true) × (g .right ≡ None) × Fresh (g .cells) b))
-Stands Commit g j b heard stirred = (g .right ≡ Some j) × (playJob (b .program) (g .base) ≡ finished heard (setAll (b .writes) (g .cells)))
-Stands Done g j b heard stirred = Member (Job j) (g .order)
+Stands Start g j b readings stirred = stirred ≡ true
+Stands (At n) g j b readings stirred = Tracks n b readings × ((stirred ≡ true) ⊎ Fresh (g .cells) b)
+Stands Rollback g j b readings stirred = stirred ≡ true
+Stands Validate g j b readings stirred =
+    (b .marked ≡ true → Validating (g .cells) b readings) × ((stirred ≡ true) ⊎ ((b .marked ≡ true) × (g .right ≡ None) × Fresh (g .cells) b))
+Stands Commit g j b readings stirred = (g .right ≡ Some j) × (playJob (b .program) (g .base) ≡ finished readings (setAll (b .writes) (g .cells)))
+Stands Done g j b readings stirred = Member (Job j) (g .order)
 
 -- At a step a log has at most as many entries as steps stand before it.
 abbrev pub room : Stage → ℕ
@@ -78,18 +78,18 @@ pub record JobInv (programs : ℕ → List Step) (g : Scene) (v : View) (j : ℕ
   pub reads : Sized (room (b .stage)) (b .reads)
   pub writes : Sized (room (b .stage)) (b .writes)
   pub starts : b .starts ≡ v .starts j % 2 ^ 32
-  pub stands : Stands (b .stage) g j b (v .heard (Job j)) (v .stirred j)
+  pub stands : Stands (b .stage) g j b (v .readings (Job j)) (v .stirred j)
 
 -- The script of an open correction, on all cells that agree with its read log.
 abbrev pub Answers : List Request → List ℕ → CorrectionState → Type 0
-Answers script heard f =
+Answers script readings f =
     (notes : List Note) × Means (f .writes) notes
-    × ((C : List ℕ) → Agrees (f .reads) C → requests C beginning script ≡ record { place = 0; registers = noRegisters; notes = notes; heard = heard })
+    × ((C : List ℕ) → Agrees (f .reads) C → requests C beginning script ≡ record { place = 0; registers = noRegisters; notes = notes; readings = readings })
 
 pub record CorrectionInv (v : View) (k : ℕ) (f : CorrectionState) : Type 0 where
   pub reads : Sized 24 (f .reads)
   pub writes : Sized 24 (f .writes)
-  pub answers : f .isOpen ≡ true → Answers (v .scripts k) (v .heard (Correction k)) f
+  pub answers : f .isOpen ≡ true → Answers (v .scripts k) (v .readings (Correction k)) f
 
 abbrev pub Closed : List JobState → List CorrectionState → Party → Type 0
 Closed jobs corrections (Job j) = (b : JobState) × (at jobs j ≡ Some b) × (b .stage ≡ Done)
@@ -99,7 +99,7 @@ abbrev pub partsIn : (ℕ → List Step) → View → Parts
 partsIn programs v = record { programs = programs; scripts = v .scripts }
 
 abbrev pub told : View → Party → List ℕ × Bool
-told v p = (v .heard p, true)
+told v p = (v .readings p, true)
 
 -- The order so far, replayed from the cells at sealing, leaves base and reads what was read.
 abbrev pub Replays : (ℕ → List Step) → List ℕ → View → List Party → List ℕ → Type 0
@@ -164,49 +164,49 @@ pub unchanged : (programs : ℕ → List Step) (C₀ : List ℕ) (s : State) (v 
 unchanged programs C₀ s v I = record { inv = I; fair = λ j. tt; spends = omega arith }
 
 -- A job that another party's act leaves as it was.
-pub stands-on : (st : Stage) (g g′ : Scene) (j : ℕ) (b : JobState) (heard : List ℕ) (stirred stirred′ : Bool) →
+pub stands-on : (st : Stage) (g g′ : Scene) (j : ℕ) (b : JobState) (readings : List ℕ) (stirred stirred′ : Bool) →
     (b .marked ≡ true → g′ .cells ≡ g .cells) →
     ((stirred′ ≡ true) ⊎ ((stirred′ ≡ stirred) × (g′ .cells ≡ g .cells) × (g .right ≡ None → g′ .right ≡ None))) →
     (g .right ≡ Some j → (g′ .right ≡ Some j) × (g′ .base ≡ g .base) × (g′ .cells ≡ g .cells)) →
     (Member (Job j) (g .order) → Member (Job j) (g′ .order)) →
-    Stands st g j b heard stirred → Stands st g′ j b heard stirred′
-stands-on Start g g′ j b heard a a′ hc hs hr ho x = elim hs [ inl t ↦ t | inr t ↦ t .0 ∙ x ]
-stands-on (At n) g g′ j b heard a a′ hc hs hr ho x = (
+    Stands st g j b readings stirred → Stands st g′ j b readings stirred′
+stands-on Start g g′ j b readings a a′ hc hs hr ho x = elim hs [ inl t ↦ t | inr t ↦ t .0 ∙ x ]
+stands-on (At n) g g′ j b readings a a′ hc hs hr ho x = (
   x .0,
   elim hs [
     | inl t ↦ inl t
     | inr t ↦ elim (x .1) [ inl y ↦ inl (t .0 ∙ y) | inr y ↦ inr (subst (λ C. Fresh C b) (sym (t .1)) y) ]
   ],
 )
-stands-on Rollback g g′ j b heard a a′ hc hs hr ho x = elim hs [ inl t ↦ t | inr t ↦ t .0 ∙ x ]
-stands-on Validate g g′ j b heard a a′ hc hs hr ho x = (
-  (λ m. subst (λ C. Validating C b heard) (sym (hc m)) (x .0 m)),
+stands-on Rollback g g′ j b readings a a′ hc hs hr ho x = elim hs [ inl t ↦ t | inr t ↦ t .0 ∙ x ]
+stands-on Validate g g′ j b readings a a′ hc hs hr ho x = (
+  (λ m. subst (λ C. Validating C b readings) (sym (hc m)) (x .0 m)),
   elim hs [
     | inl t ↦ inl t
     | inr t ↦ elim (x .1) [ inl y ↦ inl (t .0 ∙ y) | inr y ↦ inr (y .0, t .2 (y .1), subst (λ C. Fresh C b) (sym (t .1)) (y .2)) ]
   ],
 )
-stands-on Commit g g′ j b heard a a′ hc hs hr ho x =
+stands-on Commit g g′ j b readings a a′ hc hs hr ho x =
     let h = hr (x .0) in
-    (h .0, ap (playJob (b .program)) (h .1) ∙ (x .1 ∙ ap (λ C. finished heard (setAll (b .writes) C)) (sym (h .2))))
-stands-on Done g g′ j b heard a a′ hc hs hr ho x = ho x
+    (h .0, ap (playJob (b .program)) (h .1) ∙ (x .1 ∙ ap (λ C. finished readings (setAll (b .writes) C)) (sym (h .2))))
+stands-on Done g g′ j b readings a a′ hc hs hr ho x = ho x
 
 -- A job whose mark is removed.
-pub stands-unmarked : (st : Stage) (g : Scene) (j : ℕ) (b : JobState) (heard : List ℕ) (stirred : Bool) →
-    ((stirred ≡ true) ⊎ (g .right ≡ None → ⊥)) → Stands st g j b heard stirred → Stands st g j (unmark b) heard stirred
-stands-unmarked Start g j b heard a h x = x
-stands-unmarked (At n) g j b heard a h x = x
-stands-unmarked Rollback g j b heard a h x = x
-stands-unmarked Validate g j b heard a h x = (
+pub stands-unmarked : (st : Stage) (g : Scene) (j : ℕ) (b : JobState) (readings : List ℕ) (stirred : Bool) →
+    ((stirred ≡ true) ⊎ (g .right ≡ None → ⊥)) → Stands st g j b readings stirred → Stands st g j (unmark b) readings stirred
+stands-unmarked Start g j b readings a h x = x
+stands-unmarked (At n) g j b readings a h x = x
+stands-unmarked Rollback g j b readings a h x = x
+stands-unmarked Validate g j b readings a h x = (
   (λ m. zero-one (cc)),
   inl (elim h [ inl t ↦ t | inr n ↦ elim (x .1) [ inl y ↦ y | inr y ↦ absurd (n (y .1)) ] ]),
 )
-stands-unmarked Commit g j b heard a h x = x
-stands-unmarked Done g j b heard a h x = x
+stands-unmarked Commit g j b readings a h x = x
+stands-unmarked Done g j b readings a h x = x
 
 -- The replay of an order does not change where nothing new is said of its parties.
 pub replays-on : (programs : ℕ → List Step) (C₀ : List ℕ) (v w : View) (order : List Party) (base : List ℕ) →
-    ((p : Party) → Member p order → w .heard p ≡ v .heard p) → ((k : ℕ) → Member (Correction k) order → w .scripts k ≡ v .scripts k) →
+    ((p : Party) → Member p order → w .readings p ≡ v .readings p) → ((k : ℕ) → Member (Correction k) order → w .scripts k ≡ v .scripts k) →
     Replays programs C₀ v order base → Replays programs C₀ w order base
 replays-on programs C₀ v w [] base h q x = x
 replays-on programs C₀ v w (p ∷ order) base h q x =
@@ -226,9 +226,9 @@ replays-on programs C₀ v w (p ∷ order) base h q x =
 
 -- One entry more, played on what the others leave.
 pub replays-push : (programs : ℕ → List Step) (C₀ : List ℕ) (v : View) (order : List Party) (p : Party) (base cells : List ℕ) →
-    Replays programs C₀ v order base → playParty (partsIn programs v) p base ≡ finished (v .heard p) cells → Replays programs C₀ v (order ++ p ∷ []) cells
+    Replays programs C₀ v order base → playParty (partsIn programs v) p base ≡ finished (v .readings p) cells → Replays programs C₀ v (order ++ p ∷ []) cells
 replays-push programs C₀ v [] p base cells x e =
-    let q : playParty (partsIn programs v) p C₀ ≡ finished (v .heard p) cells = ap (playParty (partsIn programs v) p) (x .0) ∙ e in
+    let q : playParty (partsIn programs v) p C₀ ≡ finished (v .readings p) cells = ap (playParty (partsIn programs v) p) (x .0) ∙ e in
     (ap (λ P. P .cells) q, ap (λ P. result P ∷ []) q)
 replays-push programs C₀ v (a ∷ order) p base cells x e =
     let D : List ℕ = playParty (partsIn programs v) a C₀ .cells in

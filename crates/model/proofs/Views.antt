@@ -11,7 +11,7 @@ use Rattle.model.specs.Logs.{Log, foldl}
 use Rattle.model.specs.Replay.{Request, Reads, Writes}
 use Rattle.model.specs.Rules.{Event, Started, ReadCell, WroteCell, TookRight, SetCell, Joined}
 use Rattle.model.specs.Calls.{settingsOf}
-use Rattle.model.specs.Law.{same, hear, ask, countOf, isStart, isTaking, isSetting}
+use Rattle.model.specs.Law.{same, readingsAfter, requestsAfter, countOf, isStart, isTaking, isSetting}
 use Rattle.model.specs.declared.Party.{Party}
 use Rattle.model.specs.declared.Party.the-variants.{Job, Correction}
 use Rattle.model.proofs.Basics.{foldl-append, by-bool}
@@ -29,7 +29,7 @@ abbrev pub tick : (Event → Bool) → ℕ → Event → ℕ
 tick t n e = cond (t e) (suc n) n
 
 pub record View : Type 0 where
-  pub heard : Party → List ℕ
+  pub readings : Party → List ℕ
   pub scripts : ℕ → List Request
   pub stirred : ℕ → Bool
   pub starts : ℕ → ℕ
@@ -39,8 +39,8 @@ pub record View : Type 0 where
 abbrev pub advance : View → List Event → View
 advance v es =
     record {
-      heard = λ p. foldl (hear p) (v .heard p) es;
-      scripts = λ k. foldl (ask k) (v .scripts k) es;
+      readings = λ p. foldl (readingsAfter p) (v .readings p) es;
+      scripts = λ k. foldl (requestsAfter k) (v .scripts k) es;
       stirred = λ j. foldl (stir j) (v .stirred j) es;
       starts = λ j. foldl (tick (isStart j)) (v .starts j) es;
       takings = foldl (tick isTaking) (v .takings) es;
@@ -48,13 +48,13 @@ advance v es =
     }
 
 abbrev pub noView : View
-noView = record { heard = λ p. []; scripts = λ k. []; stirred = λ j. true; starts = λ j. 0; takings = 0; settings = 0 }
+noView = record { readings = λ p. []; scripts = λ k. []; stirred = λ j. true; starts = λ j. 0; takings = 0; settings = 0 }
 
 pub advance-append : (v : View) (xs ys : List Event) → advance (advance v xs) ys ≡ advance v (xs ++ ys)
 advance-append v xs ys =
     λ i. record {
-      heard = λ p. sym (foldl-append (hear p) (v .heard p) xs ys) i;
-      scripts = λ k. sym (foldl-append (ask k) (v .scripts k) xs ys) i;
+      readings = λ p. sym (foldl-append (readingsAfter p) (v .readings p) xs ys) i;
+      scripts = λ k. sym (foldl-append (requestsAfter k) (v .scripts k) xs ys) i;
       stirred = λ j. sym (foldl-append (stir j) (v .stirred j) xs ys) i;
       starts = λ j. sym (foldl-append (tick (isStart j)) (v .starts j) xs ys) i;
       takings = sym (foldl-append (tick isTaking) (v .takings) xs ys) i;
@@ -86,22 +86,22 @@ abbrev pub AllBy : Party → List Event → Type 0
 AllBy p [] = Unit {0}
 AllBy p (e ∷ es) = (partyOf e ≡ p) × AllBy p es
 
--- Events of one party say nothing of what another read, asked or started.
-hear-other : (p : Party) (acc : List ℕ) (e : Event) → same p (partyOf e) ≡ false → hear p acc e ≡ acc
-hear-other p acc (Started q) h = ap (λ t. cond t [] acc) h
-hear-other p acc (ReadCell q c v) h = ap (λ t. cond t (acc ++ v ∷ []) acc) h
-hear-other p acc (WroteCell q c v) h = refl
-hear-other p acc (TookRight q) h = refl
-hear-other p acc (SetCell q c v) h = refl
-hear-other p acc (Joined q) h = refl
+-- Events of one party say nothing of what another read, requested or started.
+readingsAfter-other : (p : Party) (acc : List ℕ) (e : Event) → same p (partyOf e) ≡ false → readingsAfter p acc e ≡ acc
+readingsAfter-other p acc (Started q) h = ap (λ t. cond t [] acc) h
+readingsAfter-other p acc (ReadCell q c v) h = ap (λ t. cond t (acc ++ v ∷ []) acc) h
+readingsAfter-other p acc (WroteCell q c v) h = refl
+readingsAfter-other p acc (TookRight q) h = refl
+readingsAfter-other p acc (SetCell q c v) h = refl
+readingsAfter-other p acc (Joined q) h = refl
 
-ask-other : (k : ℕ) (acc : List Request) (e : Event) → same (Correction k) (partyOf e) ≡ false → ask k acc e ≡ acc
-ask-other k acc (Started q) h = ap (λ t. cond t [] acc) h
-ask-other k acc (ReadCell q c v) h = ap (λ t. cond t (acc ++ Reads c ∷ []) acc) h
-ask-other k acc (WroteCell q c v) h = ap (λ t. cond t (acc ++ Writes c v ∷ []) acc) h
-ask-other k acc (TookRight q) h = refl
-ask-other k acc (SetCell q c v) h = refl
-ask-other k acc (Joined q) h = refl
+requestsAfter-other : (k : ℕ) (acc : List Request) (e : Event) → same (Correction k) (partyOf e) ≡ false → requestsAfter k acc e ≡ acc
+requestsAfter-other k acc (Started q) h = ap (λ t. cond t [] acc) h
+requestsAfter-other k acc (ReadCell q c v) h = ap (λ t. cond t (acc ++ Reads c ∷ []) acc) h
+requestsAfter-other k acc (WroteCell q c v) h = ap (λ t. cond t (acc ++ Writes c v ∷ []) acc) h
+requestsAfter-other k acc (TookRight q) h = refl
+requestsAfter-other k acc (SetCell q c v) h = refl
+requestsAfter-other k acc (Joined q) h = refl
 
 start-other : (j n : ℕ) (e : Event) → same (Job j) (partyOf e) ≡ false → tick (isStart j) n e ≡ n
 start-other j n (Started q) h = ap (λ t. cond t (suc n) n) h
@@ -118,11 +118,11 @@ fold-other f p q h n (e ∷ es) m acc =
     ap (λ a. foldl f a es) (h acc e (ap (same p) (m .0) ∙ n)) ∙ fold-other f p q h n es (m .1) acc
 
 module _ (q : Party) (es : List Event) (m : AllBy q es) where
-  pub heard-other : (p : Party) → same p q ≡ false → (acc : List ℕ) → foldl (hear p) acc es ≡ acc
-  heard-other p n = fold-other (hear p) p q (hear-other p) n es m
+  pub readings-other : (p : Party) → same p q ≡ false → (acc : List ℕ) → foldl (readingsAfter p) acc es ≡ acc
+  readings-other p n = fold-other (readingsAfter p) p q (readingsAfter-other p) n es m
 
-  pub asked-other : (k : ℕ) → same (Correction k) q ≡ false → (acc : List Request) → foldl (ask k) acc es ≡ acc
-  asked-other k n = fold-other (ask k) (Correction k) q (ask-other k) n es m
+  pub requested-other : (k : ℕ) → same (Correction k) q ≡ false → (acc : List Request) → foldl (requestsAfter k) acc es ≡ acc
+  requested-other k n = fold-other (requestsAfter k) (Correction k) q (requestsAfter-other k) n es m
 
   pub started-other : (j : ℕ) → same (Job j) q ≡ false → (n : ℕ) → foldl (tick (isStart j)) n es ≡ n
   started-other j n = fold-other (tick (isStart j)) (Job j) q (start-other j) n es m
@@ -135,13 +135,13 @@ pub filing-by : (k : ℕ) (log : Log) → AllBy (Correction k) (filing k log)
 filing-by k [] = (refl, tt)
 filing-by k (e ∷ log) = (refl, filing-by k log)
 
-pub filing-heard : (k : ℕ) (p : Party) (acc : List ℕ) (log : Log) → foldl (hear p) acc (filing k log) ≡ acc
-filing-heard k p acc [] = refl
-filing-heard k p acc (e ∷ log) = filing-heard k p acc log
+pub filing-readings : (k : ℕ) (p : Party) (acc : List ℕ) (log : Log) → foldl (readingsAfter p) acc (filing k log) ≡ acc
+filing-readings k p acc [] = refl
+filing-readings k p acc (e ∷ log) = filing-readings k p acc log
 
-pub filing-asked : (k n : ℕ) (acc : List Request) (log : Log) → foldl (ask n) acc (filing k log) ≡ acc
-filing-asked k n acc [] = refl
-filing-asked k n acc (e ∷ log) = filing-asked k n acc log
+pub filing-requested : (k n : ℕ) (acc : List Request) (log : Log) → foldl (requestsAfter n) acc (filing k log) ≡ acc
+filing-requested k n acc [] = refl
+filing-requested k n acc (e ∷ log) = filing-requested k n acc log
 
 pub filing-stirs : (k j : ℕ) (log : Log) → foldl (stir j) true (filing k log) ≡ true
 filing-stirs k j [] = refl

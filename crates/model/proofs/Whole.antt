@@ -185,7 +185,7 @@ module _ (programs : ℕ → List Step) (C₀ : List ℕ) where
         go (inl d) = inl (stood programs C₀ s v I j b g Done d)
         go (inr (inl y)) =
             let st = stood programs C₀ s v I j b g (At (placeOf (b .stage))) (y .0 .0) in
-            let p = player (placeOf (b .stage)) b (st .0 .0) (v .heard (Job j)) in
+            let p = player (placeOf (b .stage)) b (st .0 .0) (v .readings (Job j)) in
             inr (ap (λ o. o .ended) (comes-to (b .program) (b .reads) p (λ C. waits C p) Wait (st .0 .2) (step-at (b .program) (placeOf (b .stage)) Wait (st .0 .2 .within) (y .0 .1)) (λ C rest. refl) (s .cells) (unchanged-agrees (s .cells) (b .reads) (y .1))))
         go (inr (inr y)) =
             let h = I .holder (y .1 .0) (y .1 .1) in

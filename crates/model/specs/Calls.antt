@@ -78,14 +78,14 @@ settleIn (suc n) s = settleNext (s .right) s (λ t. settleIn n t)
 abbrev pub settle : State → Outcome (Unit {0})
 settle s = settleIn (length (s .jobs) + 25) s
 
--- Corrections.
+-- Corrections: cells that people set by hand between turns, each with logs of its own.
 abbrev pub withCorrections : State → List CorrectionState → State
 withCorrections s corrections = record { number = s .number; cells = s .cells; jobs = s .jobs; corrections = corrections; right = s .right; order = s .order; takings = s .takings; settings = s .settings }
 
 abbrev pub correction : Bool → Log → Log → CorrectionState
 correction isOpen reads writes = record { isOpen = isOpen; reads = reads; writes = writes }
 
--- A slip bears the run number and the correction number.
+-- A slip stands for one correction of one run, and has to be spent. It bears the numbers of both.
 pub record SlipNumbers : Type 0 where
   pub run : ℕ
   pub correction : ℕ

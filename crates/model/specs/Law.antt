@@ -39,28 +39,28 @@ same (Correction a) (Job b) = false
 same (Correction a) (Correction b) = eqb a b
 
 -- What a party read since its last start, in order.
-abbrev pub hear : Party → List ℕ → Event → List ℕ
-hear p heard (Started q) = cond (same p q) [] heard
-hear p heard (ReadCell q cell number) = cond (same p q) (heard ++ number ∷ []) heard
-hear p heard (WroteCell q cell number) = heard
-hear p heard (TookRight q) = heard
-hear p heard (SetCell q cell number) = heard
-hear p heard (Joined q) = heard
+abbrev pub readingsAfter : Party → List ℕ → Event → List ℕ
+readingsAfter p readings (Started q) = cond (same p q) [] readings
+readingsAfter p readings (ReadCell q cell number) = cond (same p q) (readings ++ number ∷ []) readings
+readingsAfter p readings (WroteCell q cell number) = readings
+readingsAfter p readings (TookRight q) = readings
+readingsAfter p readings (SetCell q cell number) = readings
+readingsAfter p readings (Joined q) = readings
 
-abbrev pub heardBy : List Event → Party → List ℕ
-heardBy events p = foldl (hear p) [] events
+abbrev pub readingsOf : List Event → Party → List ℕ
+readingsOf events p = foldl (readingsAfter p) [] events
 
 -- A correction's accepted readings and writings since it was opened, in order; the numbers that were answered are left out.
-abbrev pub ask : ℕ → List Request → Event → List Request
-ask k asked (Started q) = cond (same (Correction k) q) [] asked
-ask k asked (ReadCell q cell number) = cond (same (Correction k) q) (asked ++ Reads cell ∷ []) asked
-ask k asked (WroteCell q cell number) = cond (same (Correction k) q) (asked ++ Writes cell number ∷ []) asked
-ask k asked (TookRight q) = asked
-ask k asked (SetCell q cell number) = asked
-ask k asked (Joined q) = asked
+abbrev pub requestsAfter : ℕ → List Request → Event → List Request
+requestsAfter k requested (Started q) = cond (same (Correction k) q) [] requested
+requestsAfter k requested (ReadCell q cell number) = cond (same (Correction k) q) (requested ++ Reads cell ∷ []) requested
+requestsAfter k requested (WroteCell q cell number) = cond (same (Correction k) q) (requested ++ Writes cell number ∷ []) requested
+requestsAfter k requested (TookRight q) = requested
+requestsAfter k requested (SetCell q cell number) = requested
+requestsAfter k requested (Joined q) = requested
 
-abbrev pub scriptOf : List Event → ℕ → List Request
-scriptOf events k = foldl (ask k) [] events
+abbrev pub requestsOf : List Event → ℕ → List Request
+requestsOf events k = foldl (requestsAfter k) [] events
 
 abbrev pub programOr : Option JobState → List Step
 programOr None = []
@@ -70,10 +70,10 @@ abbrev pub programOf : State → ℕ → List Step
 programOf s j = programOr (at (s .jobs) j)
 
 abbrev pub partsOf : State → List Event → Parts
-partsOf s events = record { programs = programOf s; scripts = scriptOf events }
+partsOf s events = record { programs = programOf s; scripts = requestsOf events }
 
 abbrev pub result : Play → List ℕ × Bool
-result p = (p .heard, p .ended)
+result p = (p .readings, p .ended)
 
 -- Serial: with the right free, the commit order played one entry at a time from the cells at sealing leaves the run's
 -- cells; each entry reads the numbers that it read in the run, in the same order, and ends.
@@ -81,7 +81,7 @@ abbrev pub Serial : State → List Call → Type 0
 Serial s₀ calls =
     after s₀ calls .right ≡ None →
     (replayed (partsOf s₀ (eventsOf s₀ calls)) (after s₀ calls .order) (s₀ .cells) ≡ after s₀ calls .cells)
-    × (map result (plays (partsOf s₀ (eventsOf s₀ calls)) (after s₀ calls .order) (s₀ .cells)) ≡ map (λ p. (heardBy (eventsOf s₀ calls) p, true)) (after s₀ calls .order))
+    × (map result (plays (partsOf s₀ (eventsOf s₀ calls)) (after s₀ calls .order) (s₀ .cells)) ≡ map (λ p. (readingsOf (eventsOf s₀ calls) p, true)) (after s₀ calls .order))
 
 -- Another party than job j took the right or set a cell.
 abbrev pub byOther : ℕ → Event → Bool

@@ -33,22 +33,22 @@ pub record Player : Type 0 where
   pub place : ℕ
   pub registers : List ℕ
   pub notes : List Note
-  pub heard : List ℕ
+  pub readings : List ℕ
 
 -- How a play came out: the numbers read, in order, whether it ended, and the cells that it leaves.
 pub record Play : Type 0 where
-  pub heard : List ℕ
+  pub readings : List ℕ
   pub ended : Bool
   pub cells : List ℕ
 
 abbrev pub beginning : Player
-beginning = record { place = 0; registers = noRegisters; notes = []; heard = [] }
+beginning = record { place = 0; registers = noRegisters; notes = []; readings = [] }
 
 abbrev pub waits : List ℕ → Player → Play
-waits cells p = record { heard = p .heard; ended = false; cells = cells }
+waits cells p = record { readings = p .readings; ended = false; cells = cells }
 
 abbrev pub ends : List ℕ → Player → Play
-ends cells p = record { heard = p .heard; ended = true; cells = entered cells (p .notes) }
+ends cells p = record { readings = p .readings; ended = true; cells = entered cells (p .notes) }
 
 abbrev pub afterRead : List ℕ → ℕ → ℕ → Player → Player
 afterRead cells r cell p =
@@ -56,7 +56,7 @@ afterRead cells r cell p =
       place = suc (p .place);
       registers = set (p .registers) r (noted cells (p .notes) cell);
       notes = p .notes;
-      heard = p .heard ++ noted cells (p .notes) cell ∷ [];
+      readings = p .readings ++ noted cells (p .notes) cell ∷ [];
     }
 
 abbrev pub afterWrite : ℕ → ℕ → Player → Player
@@ -65,7 +65,7 @@ afterWrite cell r p =
       place = suc (p .place);
       registers = p .registers;
       notes = record { cell = cell; number = register (p .registers) r } ∷ p .notes;
-      heard = p .heard;
+      readings = p .readings;
     }
 
 abbrev pub afterComputing : Step → Player → Player
@@ -74,7 +74,7 @@ afterComputing step p =
       place = following step (p .registers) (p .place);
       registers = computed step (p .registers);
       notes = p .notes;
-      heard = p .heard;
+      readings = p .readings;
     }
 
 -- One step, and then the rest of the play.
@@ -98,14 +98,14 @@ playFrom (suc n) program cells p = playStep (nth program (p .place)) cells p (λ
 abbrev pub playJob : List Step → List ℕ → Play
 playJob program cells = playFrom (length program) program cells beginning
 
--- What a correction asked: to read a cell, or to write a number to it.
+-- What a correction requested: to read a cell, or to write a number to it.
 pub data Request : Type 0 where
   Reads : ℕ → Request
   Writes : ℕ → ℕ → Request
 
 abbrev pub request : List ℕ → Player → Request → Player
-request cells p (Reads cell) = record { place = p .place; registers = p .registers; notes = p .notes; heard = p .heard ++ noted cells (p .notes) cell ∷ [] }
-request cells p (Writes cell number) = record { place = p .place; registers = p .registers; notes = record { cell = cell; number = number } ∷ p .notes; heard = p .heard }
+request cells p (Reads cell) = record { place = p .place; registers = p .registers; notes = p .notes; readings = p .readings ++ noted cells (p .notes) cell ∷ [] }
+request cells p (Writes cell number) = record { place = p .place; registers = p .registers; notes = record { cell = cell; number = number } ∷ p .notes; readings = p .readings }
 
 abbrev pub requests : List ℕ → Player → List Request → Player
 requests cells p [] = p

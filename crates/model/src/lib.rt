@@ -100,6 +100,7 @@ pub struct Entry {
 #[derive(Clone, Copy, Debug, PartialEq)]
 pub enum Party {
     Job(u32),
+    // A correction by hand, with logs of its own.
     Correction(u32),
 }
 

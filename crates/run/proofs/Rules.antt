@@ -8,7 +8,7 @@ use Rattle.std.specs.declared.option.Option.the-variants.{Some, None}
 use Rattle.std.specs.declared.result.Result.the-variants.{Ok, Err}
 use Rattle.job.specs.Moves.{Comes, WriteOf, taking}
 use Rattle.job.specs.declared.moves.Move.{Move}
-use Rattle.job.specs.declared.moves.Move.the-variants.{Rest, Goes, Takes, Commits}
+use Rattle.job.specs.declared.moves.Move.the-variants.{NoRule, Applies, Takes, Commits}
 use Rattle.model.specs.Calls.{Turned, named, apply, turn, turnOf}
 use Rattle.model.specs.Logs.{at, find, valueIn}
 use Rattle.model.specs.Rules.{JobState, State, stepOf, rulesOf, otherMarked, firstFit, unmarkIn, withJobs, withJob, effect}
@@ -35,10 +35,10 @@ module _ (s s′ : State) (i : ℕ) (b : JobState) (here : at (s .jobs) (suc i) 
   made : (a : Turned) → s′ ≡ turnOf s (suc i) (Some b) .next → a ≡ turnOf s (suc i) (Some b) .answer → TurnIs s (suc i) s′ a
   made a e f = (e ∙ sym (ap (λ o. o .next) turn-is), f ∙ sym (ap (λ o. o .answer) turn-is))
 
-  pub rests : (b′ : JobState) → s′ ≡ withJob s (suc i) b′ → Comes s (suc i) b b′ Rest → TurnIs s (suc i) s′ (Ok None)
+  pub rests : (b′ : JobState) → s′ ≡ withJob s (suc i) b′ → Comes s (suc i) b b′ NoRule → TurnIs s (suc i) s′ (Ok None)
   rests b′ e x = made (Ok None) (e ∙ (ap (withJob s (suc i)) (x .0) ∙ (with-same s i b here ∙ sym (x .1)))) (sym (x .2))
 
-  pub goes : (b′ : JobState) (a : Applied) → s′ ≡ withJob s (suc i) b′ → Comes s (suc i) b b′ (Goes a) → TurnIs s (suc i) s′ (Ok (Some a))
+  pub goes : (b′ : JobState) (a : Applied) → s′ ≡ withJob s (suc i) b′ → Comes s (suc i) b b′ (Applies a) → TurnIs s (suc i) s′ (Ok (Some a))
   goes b′ a e x = made (Ok (Some a)) (e ∙ sym (x .0)) (sym (x .1))
 
   pub takes : (b′ : JobState) (t : State) → t ≡ withJob s (suc i) b′ → s′ ≡ withRight t (suc i) → Comes s (suc i) b b′ Takes → TurnIs s (suc i) s′ (Ok (Some (record { rule = V3; cell = None })))

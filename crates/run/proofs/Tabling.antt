@@ -18,7 +18,7 @@ use Rattle.job.specs.Moves.{Comes, WriteOf}
 use Rattle.job.specs.Shape.{isDone}
 use Rattle.job.specs.declared.job.Job.{Job}
 use Rattle.job.specs.declared.moves.Move.{Move}
-use Rattle.job.specs.declared.moves.Move.the-variants.{Rest, Goes, Takes, Commits}
+use Rattle.job.specs.declared.moves.Move.the-variants.{NoRule, Applies, Takes, Commits}
 use Rattle.model.specs.Logs.{at}
 use Rattle.model.specs.declared.Entry.{Entry}
 use Rattle.model.specs.Rules.{JobState, State, withJob, otherMarked}
@@ -94,8 +94,8 @@ with-same s i b e = λ k. record { number = s .number; cells = s .cells; jobs = 
 
 -- Whether a job is done does not change by its own turn.
 pub same-done : (s : State) (j : ℕ) (b b′ : JobState) (m : Move) → Comes s j b b′ m → isDone (b′ .stage) ≡ isDone (b .stage)
-same-done s j b b′ Rest x = ap (λ z. isDone (z .stage)) (x .0)
-same-done s j b b′ (Goes a) x = x .2
+same-done s j b b′ NoRule x = ap (λ z. isDone (z .stage)) (x .0)
+same-done s j b b′ (Applies a) x = x .2
 same-done s j b b′ Takes x = x .2
 same-done s j b b′ Commits x = ap (λ z. isDone (z .stage)) (x .0)
 

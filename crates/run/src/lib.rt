@@ -1,7 +1,7 @@
 pub mod intake;
-pub mod roster;
-pub mod rosters;
+mod roster;
+mod rosters;
 pub mod run;
-pub mod table;
-pub mod tables;
-pub mod turning;
+mod table;
+mod tables;
+mod turning;

@@ -6,6 +6,7 @@ ghost use Rattle.model.specs.Intake.{admitUnless, admissionFault, sealed};
 ghost use Rattle.run.specs.Intakes.{intakeOf};
 ghost use Rattle.run.specs.States.{stateOf};
 use crate::roster::Roster;
+use crate::table::MOST_COMMITS;
 use crate::table::Table;
 use job::admission::MOST_JOBS;
 use job::job::Job;
@@ -29,6 +30,7 @@ impl Roster {
         ensures after { λ _. ⌜ ((C : List ℕ) → intakeOf C (now (self .exit)) ≡ admitUnless (intakeOf C (now (self .entry))) (now (steps .entry)) (admissionFault (length (intakeOf C (now (self .entry)) .programs)) cells (now (steps .entry))) .0) ⌝ }
         ensures answer { λ r. ⌜ ((C : List ℕ) → r ≡ admitUnless (intakeOf C (now (self .entry))) (now (steps .entry)) (admissionFault (length (intakeOf C (now (self .entry)) .programs)) cells (now (steps .entry))) .1) ⌝ }
     {
+        // The slice shows the checker that the array has so many jobs.
         let admitted = self.jobs[0..self.count].len();
         match Job::admit(admitted, cells, steps) {
             Ok(job) => {
@@ -45,7 +47,7 @@ impl Roster {
         ensures { λ r. ⌜ ((C : List ℕ) → stateOf C r ≡ sealed (intakeOf C self)) ⌝ }
     {
         let jobs = self.jobs;
-        let order = [Party::Job(0); 24];
+        let order = [Party::Job(0); MOST_COMMITS];
         Table {
             number: self.number,
             jobs,

@@ -24,6 +24,7 @@ impl Table {
         ensures value { λ r. ⌜ r ≡ length (jobsIn (now (self .entry))) ⌝ }
         ensures few { λ r. ⌜ r ≤ 16 ⌝ }
     {
+        // The slice shows the checker that the array has so many jobs.
         self.jobs[0..self.count].len()
     }
 

@@ -31,8 +31,8 @@ impl<S: Store> Run<S> {
             return Err(Refusal::NoSuchJob);
         };
         match self.table.turn_job(i, &self.store) {
-            Move::Rest => Ok(None),
-            Move::Goes(applied) => Ok(Some(applied)),
+            Move::NoRule => Ok(None),
+            Move::Applies(applied) => Ok(Some(applied)),
             Move::Takes => {
                 self.table.take_right(i);
                 Ok(Some(Applied {

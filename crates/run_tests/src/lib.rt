@@ -1,4 +1,4 @@
-// Tests of runs over every kind of store and over layers: what jobs leave, who waits and wakes, and every refusal.
+// Tests of runs over every kind of store and over layers: what jobs leave, who waits and wakes, and what is refused.
 #[cfg(test)]
 mod outcomes;
 #[cfg(test)]

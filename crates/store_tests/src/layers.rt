@@ -61,7 +61,7 @@ fn over_change_list() -> Result<(), Fail> {
 }
 
 // Drives two layers over a store, and says whether they, and the store once they are taken apart, hold what plain
-// numbers do. More than 32 cells are held at both levels, and more than 71 sets reach the store.
+// numbers do. More than 32 different cells are set, so that cells are set below at both levels.
 fn two_layers<S: Store + Drop>(below: S) -> bool {
     let mut numbers = [0; CELLS];
     let mut top = WriteBack::new(WriteBack::new(below));

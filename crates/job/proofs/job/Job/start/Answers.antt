@@ -11,7 +11,7 @@ pub returns : need.returns
 returns c =
     λ C right.
     let b = jobOf (c .args .self .now) in
-    subst (Moves C right b (started b)) (sym (c .goes .ensures))
+    subst (Moves C right b (started b)) (sym (c .applies .ensures))
     (s3-moves C right b (c .pre .stage)
     (sym (c .in-rest .ensures tt ∙ ap (λ r. lowest any (entriesOf r)) (c .write-log-writes .ensures)))
     (sym (c .in-rest-lowest .ensures tt ∙ ap (λ r. lowest any (entriesOf r)) (c .read-log-reads .ensures))))

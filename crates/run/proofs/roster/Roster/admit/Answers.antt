@@ -1,6 +1,6 @@
 use mathlib.Core.Path.{_≡_, refl, sym, ap, _∙_}
 use mathlib.Core.List.{List, []}
-use Prim.Native.Nat.{ℕ, _+_, _≤_, _<_}
+use Prim.Native.Nat.{ℕ, _+_, _-_, _≤_, _<_}
 use native.Mathlib.Omega.{arith}
 use lib.ListN.{length, take}
 use Rattle.std.proofs.shelf.Lists.{length-take}
@@ -15,7 +15,7 @@ pub ghost-self : need.ghost-self
 ghost-self c =
     let r = c .args .self .now in
     let ok = c .in-Ok .ensures tt in
-    let few = room-for _ (c .args .cells) (c .args .steps .now) (ok .0) in
+    let few = room-for (length (take (r .count - 0) (r .jobs))) (c .args .cells) (c .args .steps .now) (ok .0) in
     let room : r .count < 16 = omega (arith, few, r .few, length-take (r .count) (r .jobs), admitted-is (r .jobs) (r .count)) in
     (omega arith, (still-new (r .jobs) (r .count) (c .in-Ok .job) (c .args .steps .now) (omega arith) (ok .1) (r .unstarted), tt))
 
@@ -26,7 +26,7 @@ returns-in-Ok c =
     let ok = c .in-Ok .ensures tt in
     let n = admitted-is (r .jobs) (r .count) in
     let none : admissionFault (length (intakeOf [] r .programs)) (c .args .cells) steps ≡ None = ap (λ (m : ℕ). admissionFault m (c .args .cells) steps) (sym n) ∙ ok .0 in
-    let few = room-for _ (c .args .cells) steps (ok .0) in
+    let few = room-for (length (take (r .count - 0) (r .jobs))) (c .args .cells) steps (ok .0) in
     let p = programs-push (r .jobs) (r .count) (c .in-Ok .job) steps (omega (arith, few, r .few)) (ok .1) in
     record {
       after = λ C. (λ k. record { number = r .number; cells = C; programs = p k }) ∙ sym (ap (λ o. admitUnless (intakeOf C r) steps o .0) none);

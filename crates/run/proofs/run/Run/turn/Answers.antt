@@ -4,7 +4,7 @@ use Prim.Native.Nat.{ℕ, suc}
 use Rattle.std.specs.declared.option.Option.the-variants.{Some, None}
 use Rattle.std.specs.declared.result.Result.the-variants.{Ok}
 use Rattle.job.specs.Moves.{Comes}
-use Rattle.job.specs.declared.moves.Move.the-variants.{Rest, Goes, Takes, Commits}
+use Rattle.job.specs.declared.moves.Move.the-variants.{NoRule, Applies, Takes, Commits}
 use Rattle.model.specs.Calls.{turn}
 use Rattle.model.specs.Logs.{at}
 use Rattle.model.specs.declared.Rule.the-variants.{V3}
@@ -31,24 +31,24 @@ commit-requires g c κs =
     let kept = still s _ i (w .0) (w .2) (w .1) (w .3 C) m in
     record { place = omega (arith, c .in-Some .ensures tt .1, w .5); stage = (w .0, ap (λ z. at (z .jobs) (suc i)) kept ∙ w .2, m .1) }
 
-pub returns-in-Rest : need.returns-in-Rest
-returns-in-Rest g c =
+pub returns-in-NoRule : need.returns-in-NoRule
+returns-in-NoRule g c =
     let C = g .S·Store .cells (c .args .self .now .store) in
     let s = stateOf C (c .args .self .now .table) in
     let i = c .in-Some .i in
     let w = c .turn-job .ensures in
-    let m = subst (Comes s (suc i) (w .0) (w .1)) (c .in-Rest .is) (w .4 s (suc i) refl refl) in
+    let m = subst (Comes s (suc i) (w .0) (w .1)) (c .in-NoRule .is) (w .4 s (suc i) refl refl) in
     let x = at-number s _ (c .args .job) i (Ok None) (c .in-Some .ensures tt .0) (rests s _ i (w .0) (w .2) (w .1) (w .3 C) m) in
     record { next = x .0; answer = x .1; loan = refl }
 
-pub returns-in-Goes : need.returns-in-Goes
-returns-in-Goes g c =
+pub returns-in-Applies : need.returns-in-Applies
+returns-in-Applies g c =
     let C = g .S·Store .cells (c .args .self .now .store) in
     let s = stateOf C (c .args .self .now .table) in
     let i = c .in-Some .i in
     let w = c .turn-job .ensures in
-    let m = subst (Comes s (suc i) (w .0) (w .1)) (c .in-Goes .is) (w .4 s (suc i) refl refl) in
-    let x = at-number s _ (c .args .job) i (Ok (Some (c .in-Goes .applied))) (c .in-Some .ensures tt .0) (goes s _ i (w .0) (w .2) (w .1) (c .in-Goes .applied) (w .3 C) m) in
+    let m = subst (Comes s (suc i) (w .0) (w .1)) (c .in-Applies .is) (w .4 s (suc i) refl refl) in
+    let x = at-number s _ (c .args .job) i (Ok (Some (c .in-Applies .applied))) (c .in-Some .ensures tt .0) (goes s _ i (w .0) (w .2) (w .1) (c .in-Applies .applied) (w .3 C) m) in
     record { next = x .0; answer = x .1; loan = refl }
 
 pub returns-in-Takes : need.returns-in-Takes
