@@ -11,10 +11,10 @@ use Rattle.std.specs.declared.option.Option.{Option}
 use Rattle.std.specs.declared.option.Option.the-variants.{Some, None}
 use Rattle.std.specs.declared.result.Result.the-variants.{Ok}
 use Rattle.model.specs.Logs.{Log, Ascending, at, foldl}
-use Rattle.model.specs.Replay.{Request, Reads, Writes, Play, Parts, playJob, plays, replayed}
+use Rattle.model.specs.Replay.{Request, Reads, Writes, Player, Play, Parts, waits, playStep, playJob, plays, replayed}
 use Rattle.model.specs.Rules.{JobState, CorrectionState, State, Event, Started, ReadCell, WroteCell, TookRight, SetCell, Joined}
 use Rattle.model.specs.Calls.{Call, Turn, Answer, OfTurn, settle, after, eventsOf, answersOf}
-use Rattle.model.specs.Intake.{Intake, lastStops, admissionFault, sealed}
+use Rattle.model.specs.Intake.{Intake, stops, lastStops, admissionFault, sealed}
 use Rattle.model.specs.declared.Party.{Party}
 use Rattle.model.specs.declared.Party.the-variants.{Job, Correction}
 use Rattle.model.specs.declared.Step.{Step}
@@ -167,6 +167,18 @@ Lawful s₀ = (calls : List Call) → LawAfter s₀ calls
 
 abbrev pub Law : Type 0
 Law = (i : Intake) → Admissible i → Lawful (sealed i)
+
+-- Every play of a well-formed program comes to a step that waits or ends, and is over there: a play is never over because
+-- it has gone past the last step or taken too many.
+pub record StopsAtStep (program : List Step) (cells : List ℕ) (play : Play) : Type 0 where
+  pub player : Player
+  pub step : Step
+  pub here : nth program (player .place) ≡ Some step
+  pub stopping : stops step ≡ true
+  pub over : play ≡ playStep (Some step) cells player (waits cells)
+
+abbrev pub PlaysStop : Type 0
+PlaysStop = (program : List Step) (cells : List ℕ) → WellFormed program → StopsAtStep program cells (playJob program cells)
 
 -- What is admitted is well formed.
 abbrev pub AdmissionSuffices : Type 0
