@@ -22,7 +22,7 @@ const CELL: u32 = 0;
 
 const NUMBER: u32 = 7;
 
-// More commits than a run can have.
+// The most commits that a run can have.
 const MOST_COMMITS: u32 = 24;
 
 // More turns than the one job can use.
