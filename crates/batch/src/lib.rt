@@ -1,4 +1,6 @@
 // Runs a listing and tells what came of it.
+#![tactic(auto)]
+
 mod admissions;
 pub mod output;
 mod reports;

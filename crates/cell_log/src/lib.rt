@@ -1,4 +1,6 @@
 // Logs: which numbers a job or a correction has read, or is to set.
+#![tactic(auto)]
+
 pub mod log;
 pub mod logs;
 pub mod lookups;

@@ -1,3 +1,5 @@
+#![tactic(auto)]
+
 ghost use Rattle.std.specs.Prelude.{◌≡◌, ◌≤◌, true, length, take};
 ghost use Rattle.store.specs.Changes.{sound};
 ghost use Rattle.change_list.specs.Records.{cell_count};

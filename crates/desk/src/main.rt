@@ -1,4 +1,6 @@
 // A desk corrects a cell by hand while a job adds to it, and prints what happens.
+#![tactic(auto)]
+
 use model::{Applied, Party, Refusal, Step};
 use run::intake::Intake;
 use run::run::Run;

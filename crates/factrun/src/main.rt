@@ -1,3 +1,5 @@
+#![tactic(auto)]
+
 use model::{Applied, Party, Step};
 use report::Line;
 use run::intake::Intake;

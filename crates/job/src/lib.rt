@@ -1,3 +1,5 @@
+#![tactic(auto)]
+
 pub mod admission;
 pub mod job;
 pub mod jobs;

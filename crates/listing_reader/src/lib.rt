@@ -1,4 +1,6 @@
 // Reads a listing.
+#![tactic(auto)]
+
 mod admitting;
 mod draft;
 mod drafts;

@@ -1,4 +1,6 @@
 // Listings and what is printed of them.
+#![tactic(auto)]
+
 #[cfg(test)]
 mod edges;
 #[cfg(test)]

@@ -1,3 +1,5 @@
+#![tactic(auto)]
+
 ghost use Rattle.std.specs.Prelude.{◌≡◌, Some};
 ghost use Rattle.model.specs.Law.{Law, AdmissionSuffices, ClosingIsSerial, PlaysStop};
 ghost use Rattle.model.specs.Names.{rule_name, refusal_number};

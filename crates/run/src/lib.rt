@@ -1,3 +1,5 @@
+#![tactic(auto)]
+
 mod correcting;
 mod counts;
 pub mod intake;

@@ -1,5 +1,7 @@
 // Tests of runs over every kind of store and over layers: what jobs and
 // corrections leave, who waits and wakes, and what is refused.
+#![tactic(auto)]
+
 #[cfg(test)]
 mod corrected;
 pub mod lawful;

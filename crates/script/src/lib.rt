@@ -1,4 +1,6 @@
 // What a listing can say: the kinds of its lines, the parts of its script, and what may be wrong with it.
+#![tactic(auto)]
+
 ghost use Rattle.std.specs.Prelude.{◌≡◌, ◌&&◌, nat_le};
 ghost use Rattle.script.specs.Lines.{kind_of, fields_of, group_of};
 ghost use Rattle.script.specs.Faults.{cause_number, cause_of, unless, in_order};

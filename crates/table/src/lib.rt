@@ -1,3 +1,5 @@
+#![tactic(auto)]
+
 mod corrections;
 pub mod roster;
 mod rosters;

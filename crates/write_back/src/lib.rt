@@ -1,3 +1,5 @@
+#![tactic(auto)]
+
 ghost use Rattle.std.specs.Prelude.{◌≡◌, [], length, set, if◌then◌else◌, nat_lt, slice_set};
 ghost use Rattle.store.specs.Changes.{replay};
 ghost use Rattle.write_back.specs.Holding.{evicted, held_in, holding, remaining, set_below};
