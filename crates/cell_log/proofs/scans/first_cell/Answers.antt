@@ -5,12 +5,12 @@ use Rattle.cell_log.specs.Rows.{agreeing}
 use Rattle.cell_log.proofs.Scanning.{entry_at, agreeing-is, lowest-here, lowest-next}
 use Rattle.cell_log.proofs.scans.first_cell.Goals as goal
 
-pub returns-then-is-current-same : goal.returns-then-is-current-same
-returns-then-is-current-same g c =
+pub returns-then-is_current-same : goal.returns-then-is_current-same
+returns-then-is_current-same g c =
     let C = g.S.Store.cells c.args.store.now in
     let l = c.args.entries.now in
     let i = c.loop-logged.logged-index in
-    let yes = agreeing-is c.args.same c.is-current.result C (entry_at l i) c.is-current.ensures ∙ c.if-is-current-same.true in
+    let yes = agreeing-is c.args.same c.is_current.result C (entry_at l i) c.is_current.ensures ∙ c.if-is_current-same.true in
     sym (lowest-here (agreeing c.args.same C) l i c.loop-logged-test.true yes) ∙ c.loop-logged.invariant
 
 pub loop-logged-preserved : goal.loop-logged-preserved
@@ -18,7 +18,7 @@ loop-logged-preserved g c =
     let C = g.S.Store.cells c.args.store.now in
     let l = c.args.entries.now in
     let i = c.loop-logged.logged-index in
-    let no = agreeing-is c.args.same c.is-current.result C (entry_at l i) c.is-current.ensures ∙ c.if-is-current-same.false in
+    let no = agreeing-is c.args.same c.is_current.result C (entry_at l i) c.is_current.ensures ∙ c.if-is_current-same.false in
     sym (lowest-next (agreeing c.args.same C) l i c.loop-logged-test.true no) ∙ c.loop-logged.invariant
 
 pub returns : goal.returns

@@ -9,4 +9,4 @@ returns c =
     let list = c.args.self.now in
     let i = c.args.i in
     let cell = (get_or list.records.now i (record { cell = 0; number = 0 })).cell in
-    ap not (c.is-changed.ensures ∙ ap (λ (cs : List Change). touches cs cell) (part_later list.records.now list.used (i + 1) (omega arith)))
+    ap not (c.is_changed.ensures ∙ ap (λ (cs : List Change). touches cs cell) (part_later list.records.now list.used (i + 1) (omega arith)))

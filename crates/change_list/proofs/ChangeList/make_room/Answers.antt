@@ -6,7 +6,7 @@ use Rattle.store.specs.Changes.{touches}
 use Rattle.change_list.specs.Records.{cell_count, newest}
 use Rattle.change_list.proofs.Counting.{newest-few}
 use Rattle.change_list.proofs.Kept.{turn_keeps, turn_leaves, sound_moved, loop_over, sound_kept, room-left, room-none}
-use Rattle.change_list.proofs.ChangeList.make_room.Goals.{After-loop-i, then-is-newest, else-is-newest}
+use Rattle.change_list.proofs.ChangeList.make_room.Goals.{After-loop-i, then-is_newest, else-is_newest}
 use Rattle.change_list.proofs.ChangeList.make_room.Goals as goal
 
 pub returns-then-self : goal.returns-then-self
@@ -23,11 +23,11 @@ returns-then-self c =
 pub loop-i-init : goal.loop-i-init
 loop-i-init c = (refl, refl, refl, omega arith, refl)
 
-pub is-newest-requires : goal.is-newest-requires
-is-newest-requires c = omega arith
+pub is_newest-requires : goal.is_newest-requires
+is_newest-requires c = omega arith
 
-pub offset-bounds-self-len : goal.offset-bounds-self-len
-offset-bounds-self-len c = omega arith
+pub offset_bounds-self-len : goal.offset_bounds-self-len
+offset_bounds-self-len c = omega arith
 
 pub bounds-self-len : goal.bounds-self-len
 bounds-self-len c = omega arith
@@ -41,27 +41,27 @@ loop-i-preserved c =
     let inv = c.loop-i.invariant in
     let none : Change = record { cell = 0; number = 0 } in
     let again = touches (drop (i + 1) (take list.used records)) (get_or records i none).cell in
-    elim c.if-is-newest.branch [
-      | then-is-newest w ↦
+    elim c.if-is_newest.branch [
+      | then-is_newest w ↦
           rw (w.self-is, w.len-is) (
             inv.0,
             length-set records len (get_or records i none) ∙ inv.1,
             inv.2,
             omega arith,
-            turn_keeps records list.used i len none list.within (omega arith) inv.3 (not-true again (sym c.is-newest.ensures ∙ w.if-is-newest.true)) ∙ inv.4,
+            turn_keeps records list.used i len none list.within (omega arith) inv.3 (not-true again (sym c.is_newest.ensures ∙ w.if-is_newest.true)) ∙ inv.4,
           )
-      | else-is-newest w ↦
+      | else-is_newest w ↦
           rw (w.self-is, w.len-is) (
             inv.0,
             inv.1,
             inv.2,
             omega arith,
-            turn_leaves records list.used i len none list.within (omega arith) (not-false again (sym c.is-newest.ensures ∙ w.if-is-newest.false)) ∙ inv.4,
+            turn_leaves records list.used i len none list.within (omega arith) (not-false again (sym c.is_newest.ensures ∙ w.if-is_newest.false)) ∙ inv.4,
           )
     ]
 
-pub invariant-of-self : goal.invariant-of-self
-invariant-of-self c =
+pub invariant_of-self : goal.invariant_of-self
+invariant_of-self c =
     let list = c.loop-i.self in
     let records = list.records.now in
     let i = c.loop-i.i in
@@ -69,8 +69,8 @@ invariant-of-self c =
     let none : Change = record { cell = 0; number = 0 } in
     (simp length-set (omega arith), (sound_moved records list.used i len none list.within (omega arith) (omega arith) list.sound, tt))
 
-pub overflow-add-len : goal.overflow-add-len
-overflow-add-len c = omega arith
+pub overflow_add-len : goal.overflow_add-len
+overflow_add-len c = omega arith
 
 over : (c : After-loop-i) → take c.loop-i.len c.loop-i.self.records.now ≡ newest (take c.args.self.now.used c.args.self.now.records.now)
 over c =
@@ -87,8 +87,8 @@ fewer c =
     let same = ap length (over c) in
     let some = c.requires in omega arith
 
-pub invariant-of-self-2 : goal.invariant-of-self-2
-invariant-of-self-2 c =
+pub invariant_of-self-2 : goal.invariant_of-self-2
+invariant_of-self-2 c =
     let entry = c.args.self.now in
     let few = fewer c in
     (omega arith, (sound_kept entry.records.now c.loop-i.self.records.now entry.used c.loop-i.len (over c) c.loop-i.invariant.1 entry.sound, tt))

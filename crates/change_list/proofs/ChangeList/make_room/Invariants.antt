@@ -8,6 +8,6 @@ invariant-loop-i l =
     let entry = l.initial.self in
     (list.used ≡ entry.used)
     × (length list.records.now ≡ length entry.records.now)
-    × (list.records.name ≡ entry.records.name)
+    × (list.records.ghost_name ≡ entry.records.ghost_name)
     × (l.len ≤ l.i)
     × (take l.len list.records.now ++ newest (drop l.i (take list.used list.records.now)) ≡ newest (take entry.used entry.records.now))

@@ -30,7 +30,7 @@ returns-then-field-k c =
     let so_far = subst (λ (m : ℕ). Leaves bytes n m rest) here c.loop-k.invariant in
     record {
       written = λ e. absurd (false≢true e);
-      found = λ e. absurd (other-column bytes n (9 - k) rest 0 (omega (arith, c.if-field-ne-COLUMNS.false)) so_far (λ same. c.if-field-k.true (same ∙ sym c.left-of.ensures)) e);
+      found = λ e. absurd (other-column bytes n (9 - k) rest 0 (omega (arith, c.if-field-ne-COLUMNS.false)) so_far (λ same. c.if-field-k.true (same ∙ sym c.left_of.ensures)) e);
     }
 
 pub loop-k-preserved : goal.loop-k-preserved
@@ -42,7 +42,7 @@ loop-k-preserved c =
     let here : 10 - k ≡ suc (9 - k) = omega (arith, c.loop-k-test.true) in
     let then : 9 - k ≡ 10 - (k + 1) = omega (arith, c.loop-k-test.true) in
     let so_far = subst (λ (m : ℕ). Leaves bytes n m rest) here c.loop-k.invariant in
-    subst (λ (m : ℕ). Leaves bytes n m (rest / 10)) then (next bytes n (9 - k) rest 0 (omega (arith, c.if-field-ne-COLUMNS.false)) so_far (c.if-field-k.false ∙ c.left-of.ensures))
+    subst (λ (m : ℕ). Leaves bytes n m (rest / 10)) then (next bytes n (9 - k) rest 0 (omega (arith, c.if-field-ne-COLUMNS.false)) so_far (c.if-field-k.false ∙ c.left_of.ensures))
 
 pub returns : goal.returns
 returns c =

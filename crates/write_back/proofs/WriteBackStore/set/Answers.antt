@@ -24,7 +24,7 @@ pub put-requires : goal.put-requires
 put-requires g c =
     let table = c.args.self.now.held in
     let short = length-take table.len table.changes in
-    ap (λ (cs : List Change). full cs c.args.cell) c.make-room-oldest.ensures.after ∙ room_made (held_in table) c.args.cell (omega arith)
+    ap (λ (cs : List Change). full cs c.args.cell) c.make_room-oldest.ensures.after ∙ room_made (held_in table) c.args.cell (omega arith)
 
 pub returns : goal.returns
 returns g c =
@@ -32,13 +32,13 @@ returns g c =
     let held = held_in c.args.self.now.held in
     let cell = c.args.cell in
     let number = c.args.number in
-    let room = c.make-room-oldest.ensures in
+    let room = c.make_room-oldest.ensures in
     let now-held = c.put.ensures ∙ ap (λ (cs : List Change). holding cs cell number) room.after in
-    let now-below = c.set-below.ensures.after ∙ ap (set_below cells) room.value in
+    let now-below = c.set_below.ensures.after ∙ ap (set_below cells) room.value in
     record {
       answer = sym (lt-ltb cell (length (replay cells held)) (omega arith));
-      after = replay-set cells (g.S.Store.cells c.set-below.new.below) held (held_in c.put.new.self) cell number c.args.self.now.held.apart now-below now-held;
-      same = c.set-below.ensures.same;
+      after = replay-set cells (g.S.Store.cells c.set_below.new.below) held (held_in c.put.new.self) cell number c.args.self.now.held.apart now-below now-held;
+      same = c.set_below.ensures.same;
       held = now-held;
       below = now-below;
     }

@@ -7,5 +7,5 @@ returns c =
     let row = c.args.self in
     record {
       len = omega arith;
-      value = row_removed row.entries c.copy-within.new.self row.len c.args.i c.requires.0 (omega arith) c.copy-within.ensures.after;
+      value = row_removed row.entries c.copy_within.new.self row.len c.args.i c.requires.0 (omega arith) c.copy_within.ensures.after;
     }

@@ -7,5 +7,5 @@ returns c =
     let row = c.args.self in
     record {
       len = add-one row.len;
-      value = row_inserted row.entries c.copy-within.new.self row.len c.args.i c.args.entry c.requires.0 (omega arith) c.copy-within.ensures.after;
+      value = row_inserted row.entries c.copy_within.new.self row.len c.args.i c.args.entry c.requires.0 (omega arith) c.copy_within.ensures.after;
     }

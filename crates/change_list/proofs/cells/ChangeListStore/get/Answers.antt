@@ -10,4 +10,4 @@ returns-then-cell-count c = let list = c.args.self.now in get_past (list_cells l
 pub returns : goal.returns
 returns c =
     let list = c.args.self.now in
-    ap Some (c.unwrap-or.ensures ∙ ap (λ (n : Option ℕ). unwrap_or n 0) c.newest-number-number.ensures) ∙ get_inside list.records.now list.used c.args.cell (omega arith)
+    ap Some (c.unwrap_or.ensures ∙ ap (λ (n : Option ℕ). unwrap_or n 0) c.newest_number-number.ensures) ∙ get_inside list.records.now list.used c.args.cell (omega arith)

@@ -17,14 +17,14 @@ returns-then-cell-count c =
       records = refl;
     }
 
-pub make-room-requires : goal.make-room-requires
-make-room-requires c = let list = c.args.self.now in omega (arith, length-cells list.records.now list.used)
+pub make_room-requires : goal.make_room-requires
+make_room-requires c = let list = c.args.self.now in omega (arith, length-cells list.records.now list.used)
 
 pub returns : goal.returns
 returns c =
     let list = c.args.self.now in
-    let room = c.make-room.new.self in
-    let made = c.make-room.ensures in
+    let room = c.make_room.new.self in
+    let made = c.make_room.ensures in
     let change : Change = record { cell = c.args.cell; number = c.args.number } in
     record {
       answer = sym (lt-ltb c.args.cell (length (list_cells list.records.now list.used)) (omega arith));
@@ -33,13 +33,13 @@ returns c =
       records = added room.records.now room.used change (with_room (length list.records.now) (take list.used list.records.now)) made.room made.kept;
     }
 
-pub invariant-of-self : goal.invariant-of-self
-invariant-of-self c =
+pub invariant_of-self : goal.invariant_of-self
+invariant_of-self c =
     let list = c.args.self.now in
     let count = length-cells list.records.now list.used in
-    let room = c.make-room.new.self in
+    let room = c.make_room.new.self in
     let records = room.records.now in
     let change : Change = record { cell = c.args.cell; number = c.args.number } in
-    let same = c.make-room.ensures.length in
-    let free = c.make-room.ensures.room in
+    let same = c.make_room.ensures.length in
+    let free = c.make_room.ensures.room in
     (simp length-set (omega arith), (sound-added records room.used change free (rw same (omega arith)) (omega arith) room.sound, tt))

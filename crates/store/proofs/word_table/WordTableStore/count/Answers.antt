@@ -8,5 +8,5 @@ returns c =
     record {
       value = omega (arith, length-take 65536 words);
       few = omega arith;
-      fit = fit_take 65536 words c.words-fit.ensures;
+      fit = fit_take 65536 words c.words_fit.ensures;
     }

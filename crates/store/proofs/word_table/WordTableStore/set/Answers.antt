@@ -4,12 +4,12 @@ use Rattle.std.proofs.lemmas.List.{drop-set-lt}
 use Rattle.store.proofs.Words.{inside, outside, set-outside}
 use Rattle.store.proofs.word_table.WordTableStore.set.Goals as goal
 
-pub returns-then-i-lt-MOST-CELLS : goal.returns-then-i-lt-MOST-CELLS
-returns-then-i-lt-MOST-CELLS c =
+pub returns-then-i-lt-MOST_CELLS : goal.returns-then-i-lt-MOST_CELLS
+returns-then-i-lt-MOST_CELLS c =
     let words = c.args.self.now.words.now in
     let cell = c.args.cell in
     let number = c.args.number in
-    let within = c.if-i-lt-MOST-CELLS.true in
+    let within = c.if-i-lt-MOST_CELLS.true in
     record {
       answer = sym (inside 65536 words cell c.if-i-self.true within);
       after = take-set-lt 65536 words cell number within;
