@@ -67,7 +67,7 @@ invariant_of-self c =
     let i = c.loop-i.i in
     let len = c.loop-i.len in
     let none : Change = record { cell = 0; number = 0 } in
-    (simp length-set (omega arith), (sound_moved records list.used i len none list.within (omega arith) (omega arith) list.sound, tt))
+    record { within = simp length-set (omega arith); sound = sound_moved records list.used i len none list.within (omega arith) (omega arith) list.sound }
 
 pub overflow_add-len : goal.overflow_add-len
 overflow_add-len c = omega arith
@@ -91,7 +91,7 @@ pub invariant_of-self-2 : goal.invariant_of-self-2
 invariant_of-self-2 c =
     let entry = c.args.self.now in
     let few = fewer c in
-    (omega arith, (sound_kept entry.records.now c.loop-i.self.records.now entry.used c.loop-i.len (over c) c.loop-i.invariant.1 entry.sound, tt))
+    record { within = omega arith; sound = sound_kept entry.records.now c.loop-i.self.records.now entry.used c.loop-i.len (over c) c.loop-i.invariant.1 entry.sound }
 
 pub returns : goal.returns
 returns c =

@@ -10,7 +10,7 @@ invariant_of-result c =
     let log = c.args.self in
     let made = c.replace.ensures.value ∙ sym (c.in-Ok.ensures.1.puts c.args.number) in
     let few = sound_len log.row log.ordered in
-    (put-sound log.row c.replace.result c.args.cell c.args.number log.ordered (omega arith) made, tt)
+    record { ordered = put-sound log.row c.replace.result c.args.cell c.args.number log.ordered (omega arith) made }
 
 pub returns-in-Ok : goal.returns-in-Ok
 returns-in-Ok c =
@@ -24,4 +24,4 @@ pub invariant_of-result-in-Err : goal.invariant_of-result-in-Err
 invariant_of-result-in-Err c =
     let log = c.args.self in
     let made = c.insert.ensures.value ∙ sym (c.in-Err.ensures.1.puts c.args.number) in
-    (put-sound log.row c.insert.result c.args.cell c.args.number log.ordered (omega arith) made, tt)
+    record { ordered = put-sound log.row c.insert.result c.args.cell c.args.number log.ordered (omega arith) made }

@@ -42,4 +42,4 @@ invariant_of-self c =
     let change : Change = record { cell = c.args.cell; number = c.args.number } in
     let same = c.make_room.ensures.length in
     let free = c.make_room.ensures.room in
-    (simp length-set (omega arith), (sound-added records room.used change free (rw same (omega arith)) (omega arith) room.sound, tt))
+    record { within = simp length-set (omega arith); sound = sound-added records room.used change free (rw same (omega arith)) (omega arith) room.sound }

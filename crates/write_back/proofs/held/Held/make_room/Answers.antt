@@ -14,7 +14,7 @@ left c = let table = c.args.self.now in turned table.changes c.rotate_left.new.s
 pub invariant_of-self : goal.invariant_of-self
 invariant_of-self c =
     let table = c.args.self.now in
-    (omega arith, (ap distinct (left c) ∙ distinct-rest (held_in table) table.apart, (ap (sound (2 ^ 32)) (left c) ∙ sound-rest (2 ^ 32) (held_in table) table.sound, tt)))
+    record { few = omega arith; apart = ap distinct (left c) ∙ distinct-rest (held_in table) table.apart; sound = ap (sound (2 ^ 32)) (left c) ∙ sound-rest (2 ^ 32) (held_in table) table.sound }
 
 pub returns : goal.returns
 returns c =

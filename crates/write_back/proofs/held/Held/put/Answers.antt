@@ -32,13 +32,7 @@ returns-in-Some c = replaced (goal.at.returns-in-Some c).In-Some
 pub invariant_of-self : goal.invariant_of-self
 invariant_of-self c =
     let table = c.args.self.now in
-    let done = replaced (goal.at.invariant_of-self c).In-Some in (
-      omega arith,
-      (
-        ap distinct done ∙ distinct-holding (held_in table) c.args.cell c.args.number table.apart,
-        (ap (sound (2 ^ 32)) done ∙ sound-holding (2 ^ 32) (held_in table) c.args.cell c.args.number (omega arith) (omega arith) table.sound, tt),
-      ),
-    )
+    let done = replaced (goal.at.invariant_of-self c).In-Some in record { few = omega arith; apart = ap distinct done ∙ distinct-holding (held_in table) c.args.cell c.args.number table.apart; sound = ap (sound (2 ^ 32)) done ∙ sound-holding (2 ^ 32) (held_in table) c.args.cell c.args.number (omega arith) (omega arith) table.sound }
 
 pub returns : goal.returns
 returns c = added (goal.at.returns c).In_default (omega arith)
@@ -47,10 +41,4 @@ pub invariant_of-self-2 : goal.invariant_of-self-2
 invariant_of-self-2 c =
     let table = c.args.self.now in
     let less = few (goal.at.invariant_of-self-2 c).In_default (omega arith) in
-    let done = added (goal.at.invariant_of-self-2 c).In_default (omega arith) in (
-      omega arith,
-      (
-        ap distinct done ∙ distinct-holding (held_in table) c.args.cell c.args.number table.apart,
-        (ap (sound (2 ^ 32)) done ∙ sound-holding (2 ^ 32) (held_in table) c.args.cell c.args.number (omega arith) (omega arith) table.sound, tt),
-      ),
-    )
+    let done = added (goal.at.invariant_of-self-2 c).In_default (omega arith) in record { few = omega arith; apart = ap distinct done ∙ distinct-holding (held_in table) c.args.cell c.args.number table.apart; sound = ap (sound (2 ^ 32)) done ∙ sound-holding (2 ^ 32) (held_in table) c.args.cell c.args.number (omega arith) (omega arith) table.sound }
