@@ -13,7 +13,7 @@ pub returns-then-cell-count : goal.returns-then-cell-count
 returns-then-cell-count g c =
     read-beyond (g.S.Store.cells c.args.store.now) (correction_of c.args.self.now) c.args.cell c.if-not-self.false (omega (arith, c.if-cell-count.true, c.count.ensures.value))
 
-pub returns-in-default-put : goal.returns-in-default-put
-returns-in-default-put g c =
-    read-full (g.S.Store.cells c.args.store.now) (correction_of c.args.self.now) c.args.cell c.if-not-self.false (entries_of c.read-log.result.row)
-    (ap entries_of c.read-log.ensures) (omega (arith, c.if-cell-count.false, c.count.ensures.value)) c.in-default.ensures c.in-default-put.ensures.answer
+pub returns-in_default-put : goal.returns-in_default-put
+returns-in_default-put g c =
+    read-full (g.S.Store.cells c.args.store.now) (correction_of c.args.self.now) c.args.cell c.if-not-self.false (entries_of c.read_log.result.row)
+    (ap entries_of c.read_log.ensures) (omega (arith, c.if-cell-count.false, c.count.ensures.value)) c.in_default.ensures c.in_default-put.ensures.answer

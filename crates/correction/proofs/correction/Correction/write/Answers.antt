@@ -13,7 +13,7 @@ pub returns-then-cell-count : goal.returns-then-cell-count
 returns-then-cell-count g c =
     write-beyond (g.S.Store.cells c.args.store.now) (correction_of c.args.self.now) c.args.cell c.if-not-self.false c.args.number (omega (arith, c.if-cell-count.true, c.count.ensures.value))
 
-pub returns-in-default : goal.returns-in-default
-returns-in-default g c =
-    write-full (g.S.Store.cells c.args.store.now) (correction_of c.args.self.now) c.args.cell c.if-not-self.false c.args.number (entries_of c.write-log.result.row)
-    (ap entries_of c.write-log.ensures) (omega (arith, c.if-cell-count.false, c.count.ensures.value)) c.in-default.ensures.answer
+pub returns-in_default : goal.returns-in_default
+returns-in_default g c =
+    write-full (g.S.Store.cells c.args.store.now) (correction_of c.args.self.now) c.args.cell c.if-not-self.false c.args.number (entries_of c.write_log.result.row)
+    (ap entries_of c.write_log.ensures) (omega (arith, c.if-cell-count.false, c.count.ensures.value)) c.in_default.ensures.answer

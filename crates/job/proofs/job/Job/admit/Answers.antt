@@ -4,21 +4,21 @@ use Rattle.job.specs.Shape.{runnable}
 use Rattle.job.proofs.Testing.{runs, few-steps}
 use Rattle.job.proofs.job.Job.admit.Goals as goal
 
-pub program-of-requires : goal.program-of-requires
-program-of-requires c = few-steps c.args.jobs c.args.count c.args.steps.now (sym c.in-default.ensures)
+pub program_of-requires : goal.program_of-requires
+program_of-requires c = few-steps c.args.jobs c.args.count c.args.steps.now (sym c.in_default.ensures)
 
-pub invariant-of-result : goal.invariant-of-result
-invariant-of-result c =
+pub invariant_of-result : goal.invariant_of-result
+invariant_of-result c =
     let steps = c.args.steps.now in
-    let fine = sym c.in-default.ensures in
+    let fine = sym c.in_default.ensures in
     let fits : c.args.count ≤ 2 ^ 64 = omega arith in
-    (few-steps c.args.jobs c.args.count steps fine, (ap runnable c.program-of.ensures ∙ runs c.args.jobs c.args.count steps fits fine, (c.empty.ensures.ordered, (c.empty-2.ensures.ordered, (refl, tt)))))
+    record { short = few-steps c.args.jobs c.args.count steps fine; runnable = ap runnable c.program_of.ensures ∙ runs c.args.jobs c.args.count steps fits fine; readable = c.empty.ensures.ordered; writable = c.empty-2.ensures.ordered; placed = refl }
 
 pub returns : goal.returns
 returns c = (
-  sym c.in-default.ensures,
+  sym c.in_default.ensures,
   λ i. record {
-    program = c.program-of.ensures i;
+    program = c.program_of.ensures i;
     stage = Start;
     registers = replicate 8 0;
     reads = c.empty.ensures.value i;

@@ -25,22 +25,10 @@ load-requires-2 g c =
     let here = standing b c.args.n (Read c.args.register c.args.cell) c.requires.stage c.requires.step in
     record { stage = c.requires.stage; within = (here.goes refl).1; register = here.registers }
 
-pub invariant-of-self : goal.invariant-of-self
-invariant-of-self g c =
+pub invariant_of-self : goal.invariant_of-self
+invariant_of-self g c =
     let b = c.args.self.now in
     let l = c.load-2.new.self in
     let n = c.args.n in
     let here = standing b n (Read c.args.register c.args.cell) c.requires.stage c.requires.step in
-    let e = row_put c.put.result c.unwrap-reads.result c.into-row-self.result c.read-log.result.row c.args.cell c.number-at-number.result c.unwrap-reads.ensures c.put.ensures.value c.into-row-self.ensures.same in (
-      l.short,
-      (
-        l.runnable,
-        (
-          c.into-row-self.ensures.ordered,
-          (
-            l.writable,
-            (placed_read (job_of b) (job_of l) _ n c.args.cell c.number-at-number.result (entries_of c.into-row-self.result) c.load-2.ensures (here.goes refl).1 here.reads here.writes (e ∙ ap (λ r. put (entries_of r) c.args.cell c.number-at-number.result) c.read-log.ensures), tt),
-          ),
-        ),
-      ),
-    )
+    let e = row_put c.put.result c.unwrap-reads.result c.into_row-self.result c.read_log.result.row c.args.cell c.number_at-number.result c.unwrap-reads.ensures c.put.ensures.value c.into_row-self.ensures.same in record { short = l.short; runnable = l.runnable; readable = c.into_row-self.ensures.ordered; writable = l.writable; placed = placed_read (job_of b) (job_of l) _ n c.args.cell c.number_at-number.result (entries_of c.into_row-self.result) c.load-2.ensures (here.goes refl).1 here.reads here.writes (e ∙ ap (λ r. put (entries_of r) c.args.cell c.number_at-number.result) c.read_log.ensures) }

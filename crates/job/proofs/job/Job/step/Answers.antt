@@ -23,8 +23,8 @@ at_none Validate h = refl
 at_none Commit h = refl
 at_none Done h = refl
 
-pub returns-in-default : goal.returns-in-default
-returns-in-default c =
+pub returns-in_default : goal.returns-in_default
+returns-in_default c =
     let b = c.args.self.now in
     step_in b.program b.steps 0 _ (has_first (job_of b) b.runnable b.placed)
-    ∙ sym (ap (λ n. step_or (slice_get (take b.steps b.program) n)) (at_none b.stage c.in-default.not-At))
+    ∙ sym (ap (λ n. step_or (slice_get (take b.steps b.program) n)) (at_none b.stage c.in_default.not-At))

@@ -26,7 +26,7 @@ pub returns-in-At-Wait-default : goal.returns-in-At-Wait-default
 returns-in-At-Wait-default g c = c.wait.ensures c.args.right
 
 pub returns-in-Rollback-default-default : goal.returns-in-Rollback-default-default
-returns-in-Rollback-default-default g c = c.to-start.ensures (g.S.Store.cells c.args.store.now) c.args.right
+returns-in-Rollback-default-default g c = c.to_start.ensures (g.S.Store.cells c.args.store.now) c.args.right
 
 pub returns-in-At-End-None : goal.returns-in-At-End-None
 returns-in-At-End-None g c = λ s j hc hr. c.end.ensures (g.S.Store.cells c.args.store.now) s j hc (hr ∙ c.in-At-End-None.is-2)
