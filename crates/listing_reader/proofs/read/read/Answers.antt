@@ -6,21 +6,21 @@ use Rattle.listing_reader.specs.Ends.{lines_from}
 use Rattle.listing_reader.proofs.Lining.{ended, short-outcome, lawful}
 use Rattle.listing_reader.proofs.read.read.Goals as goal
 
-pub returns-in-err-take-line : goal.returns-in-err-take-line
-returns-in-err-take-line c =
+pub returns-in_err-take_line : goal.returns-in_err-take_line
+returns-in_err-take_line c =
     let bytes = c.args.listing.now in
     let d = progress_of c.loop-reader.draft in
     let p = c.loop-reader.reader.place in
-    let f = c.in-err-take-line.field-0.0 in
+    let f = c.in_err-take_line.field-0.0 in
     let fault : read_lines d p.line (lines_from bytes p) ≡ Err f =
-    subst (λ (bs : List ℕ). read_lines d p.line (lines_from bs p) ≡ Err f) c.loop-reader.invariant.0 c.in-err-take-line.ensures.taken in
-    let answer = short-outcome bytes (Err f) c.if-listing-gt-MOST-BYTES.false (sym fault ∙ c.loop-reader.invariant.1.same) in
-    let e = err_from_is_err_and c.from-residual.result c.from-residual.ensures.1 in
+    subst (λ (bs : List ℕ). read_lines d p.line (lines_from bs p) ≡ Err f) c.loop-reader.invariant.0 c.in_err-take_line.ensures.taken in
+    let answer = short-outcome bytes (Err f) c.if-listing-gt-MOST_BYTES.false (sym fault ∙ c.loop-reader.invariant.1.same) in
+    let e = err_from_is_err_and c.from_residual.result c.from_residual.ensures.1 in
     rw (e.1, e.2) (record { outcome = answer; exact = lawful bytes (Err f) answer })
 
 pub returns : goal.returns
 returns c =
     let bytes = c.args.listing.now in
     let r = read_as c.finish.result in
-    let answer = short-outcome bytes r c.if-listing-gt-MOST-BYTES.false (ended bytes c.loop-reader.draft c.loop-reader.reader.place r c.loop-reader.invariant.1 c.loop-reader-test.false c.finish.ensures) in
+    let answer = short-outcome bytes r c.if-listing-gt-MOST_BYTES.false (ended bytes c.loop-reader.draft c.loop-reader.reader.place r c.loop-reader.invariant.1 c.loop-reader-test.false c.finish.ensures) in
     record { outcome = answer; exact = lawful bytes r answer }

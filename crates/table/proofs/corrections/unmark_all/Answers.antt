@@ -7,7 +7,7 @@ use Rattle.table.proofs.corrections.unmark_all.Goals as goal
 pub loop-i-preserved : goal.loop-i-preserved
 loop-i-preserved c =
     let states = map job_of c.args.jobs.now in
-    unmarked_more states c.loop-i.jobs c.unmark-at.new.jobs c.loop-i.i (omega (arith, length-map c.args.jobs.now job_of, c.loop-i-test.true)) c.unmark-at.ensures c.loop-i.invariant
+    unmarked_more states c.loop-i.jobs c.unmark_at.new.jobs c.loop-i.i (omega (arith, length-map c.args.jobs.now job_of, c.loop-i-test.true)) c.unmark_at.ensures c.loop-i.invariant
 
 pub returns : goal.returns
 returns c =

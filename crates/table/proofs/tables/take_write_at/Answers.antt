@@ -6,4 +6,4 @@ pub returns : goal.returns
 returns c =
     let jobs = c.args.jobs.now in
     let d = c.index-jobs-i.result in
-    (get_or jobs c.args.i d, c.take-write.new.self, slice_get-get_or jobs c.args.i d c.requires, refl, c.take-write.ensures)
+    (get_or jobs c.args.i d, c.take_write.new.self, slice_get-get_or jobs c.args.i d c.requires, refl, c.take_write.ensures)

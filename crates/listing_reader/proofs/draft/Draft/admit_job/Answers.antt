@@ -11,10 +11,10 @@ pub returns : goal.returns
 returns c =
     let d = c.args.self.now in
     let p = progress_of d in
-    let none : admission_fault (length p.jobs) p.count p.steps ≡ None = sym c.in-default.ensures.value in
-    let steps : steps_in c.unwrap-program.result ≡ p.steps = MatchOption-at_some _ _ c.unwrap-program.result c.unwrap-program.ensures c.new.ensures ∙ c.as-slice.ensures.value in
-    let jobs : map steps_in (vec_items c.push-reserved.new.self) ≡ p.jobs ++ p.steps ∷ [] =
-    ap (map steps_in) c.push-reserved.ensures.items
+    let none : admission_fault (length p.jobs) p.count p.steps ≡ None = sym c.in_default.ensures.value in
+    let steps : steps_in c.unwrap-program.result ≡ p.steps = MatchOption-at_some _ _ c.unwrap-program.result c.unwrap-program.ensures c.new.ensures ∙ c.as_slice.ensures.value in
+    let jobs : map steps_in (vec_items c.push_reserved.new.self) ≡ p.jobs ++ p.steps ∷ [] =
+    ap (map steps_in) c.push_reserved.ensures.items
     ∙ (map_push steps_in (vec_items d.jobs) c.unwrap-program.result ∙ ap (λ xs. p.jobs ++ xs ∷ []) steps) in
     record {
       read = ap (λ o. admit_unless o p) none

@@ -2,9 +2,9 @@ use Rattle.std.proofs.Common.{refl, arith}
 use Rattle.listing_reader.proofs.Ending.{part-unclosed, part-line}
 use Rattle.listing_reader.proofs.reader.Reader.next_bytes.Goals as goal
 
-pub returns-in-default : goal.returns-in-default
-returns-in-default c =
-    record { split = part-unclosed c.args.self.now.bytes.now c.args.self.now.place.at (omega arith) c.in-default.ensures.value; bytes = refl }
+pub returns-in_default : goal.returns-in_default
+returns-in_default c =
+    record { split = part-unclosed c.args.self.now.bytes.now c.args.self.now.place.at (omega arith) c.in_default.ensures.value; bytes = refl }
 
 pub returns : goal.returns
 returns c =

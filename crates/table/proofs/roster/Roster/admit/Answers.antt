@@ -5,13 +5,13 @@ use Rattle.table.specs.Intakes.{intake_of}
 use Rattle.table.proofs.Rostering.{still_new, programs-push, admitted_is, room_for}
 use Rattle.table.proofs.roster.Roster.admit.Goals as goal
 
-pub invariant-of-self : goal.invariant-of-self
-invariant-of-self c =
+pub invariant_of-self : goal.invariant_of-self
+invariant_of-self c =
     let r = c.args.self.now in
     let ok = c.in-Ok.ensures in
     let few = room_for (length (take (r.count - 0) r.jobs)) c.args.cells c.args.steps.now ok.0 in
     let room : r.count < 16 = omega (arith, few, r.few, length-take r.count r.jobs, admitted_is r.jobs r.count) in
-    (omega arith, (still_new r.jobs r.count c.in-Ok.job c.args.steps.now (omega arith) ok.1 r.unstarted, tt))
+    record { few = omega arith; unstarted = still_new r.jobs r.count c.in-Ok.job c.args.steps.now (omega arith) ok.1 r.unstarted }
 
 pub returns-in-Ok : goal.returns-in-Ok
 returns-in-Ok c =

@@ -3,8 +3,8 @@ use Rattle.table.proofs.Rostering.{as_admitted}
 use Rattle.table.proofs.Tabling.{unfinished_le}
 use Rattle.table.proofs.roster.Roster.into_table.Goals as goal
 
-pub invariant-of-result : goal.invariant-of-result
-invariant-of-result c = let r = c.args.self in (r.few, (omega arith, (omega (arith, unfinished_le r.jobs), (omega arith, tt))))
+pub invariant_of-result : goal.invariant_of-result
+invariant_of-result c = let r = c.args.self in record { few = r.few; wide = omega arith; room = omega (arith, unfinished_le r.jobs); places = omega arith }
 
 pub returns : goal.returns
 returns c =

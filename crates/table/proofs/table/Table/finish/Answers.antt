@@ -29,29 +29,20 @@ room t i b h e x = let left = room-left t.joined (unclosed (take t.opened t.corr
 pub bounds-self-self : goal.bounds-self-self
 bounds-self-self c =
     let t = c.args.self.now in
-    let x = c.finish-at.ensures in
+    let x = c.finish_at.ensures in
     omega (arith, room t c.args.i x.0 c.requires.place x.2 c.requires.commit)
 
-pub invariant-of-self : goal.invariant-of-self
-invariant-of-self c =
+pub invariant_of-self : goal.invariant_of-self
+invariant_of-self c =
     let t = c.args.self.now in
-    let x = c.finish-at.ensures in (
-      t.few,
-      (
-        omega (arith, t.wide, length-set t.order t.joined (Job (c.args.i + 1))),
-        (
-          room_used t.joined (unclosed (take t.opened t.corrections)) t.opened c.args.i t.jobs c.finish-at.new.jobs x.0 x.1 x.2 x.3 (not_yet t c.args.i x.0 c.requires.place x.2 c.requires.commit) (ap (λ b. is_done b.stage) x.4) t.room,
-          (t.places, tt),
-        ),
-      ),
-    )
+    let x = c.finish_at.ensures in record { few = t.few; wide = omega (arith, t.wide, length-set t.order t.joined (Job (c.args.i + 1))); room = room_used t.joined (unclosed (take t.opened t.corrections)) t.opened c.args.i t.jobs c.finish_at.new.jobs x.0 x.1 x.2 x.3 (not_yet t c.args.i x.0 c.requires.place x.2 c.requires.commit) (ap (λ b. is_done b.stage) x.4) t.room; places = t.places }
 
 pub returns : goal.returns
 returns c =
     let t = c.args.self.now in
     let i = c.args.i in
-    let x = c.finish-at.ensures in
-    let e = row-set job_of t.count i t.jobs c.finish-at.new.jobs x.1 (done (job_of x.0)) c.requires.place x.3 x.4 in (
+    let x = c.finish_at.ensures in
+    let e = row-set job_of t.count i t.jobs c.finish_at.new.jobs x.1 (done (job_of x.0)) c.requires.place x.3 x.4 in (
       job_of x.0,
       row_at job_of t.jobs t.count i x.0 c.requires.place x.2,
       λ C.

@@ -13,18 +13,18 @@ use Rattle.table.proofs.table.Table.open_correction.Goals as goal
 sliced : (t : Table) → t.opened ≤ length t.corrections → length (take (t.opened - 0) t.corrections) ≡ t.opened
 sliced t h = ap (λ (m : ℕ). length (take m t.corrections)) (sub-zero t.opened) ∙ length-take-le t.opened t.corrections h
 
-pub invariant-of-self : goal.invariant-of-self
-invariant-of-self c =
+pub invariant_of-self : goal.invariant_of-self
+invariant_of-self c =
     let t = c.args.self.now in
     let few : t.opened ≤ length t.corrections = omega (arith, t.places) in
-    let room : t.opened < 8 = omega (arith, c.if-opened-ge-MOST-CORRECTIONS.false, sliced t few) in
-    (t.few, (t.wide, (omega (arith, t.room, unclosed_more t.corrections t.opened c.new.result (omega (arith, room))), (omega (arith, room), tt))))
+    let room : t.opened < 8 = omega (arith, c.if-opened-ge-MOST_CORRECTIONS.false, sliced t few) in
+    record { few = t.few; wide = t.wide; room = omega (arith, t.room, unclosed_more t.corrections t.opened c.new.result (omega (arith, room))); places = omega (arith, room) }
 
 pub returns : goal.returns
 returns c =
     let t = c.args.self.now in
     let few : t.opened ≤ length t.corrections = omega (arith, t.places) in
-    let room : t.opened < 8 = omega (arith, c.if-opened-ge-MOST-CORRECTIONS.false, sliced t few) in
+    let room : t.opened < 8 = omega (arith, c.if-opened-ge-MOST_CORRECTIONS.false, sliced t few) in
     let n = opened-is t few in
     let below : length (corrections_in t) < 8 = omega (arith, n, room) in
     let e = opened_more t.corrections t.opened c.new.result (correction true [] []) (omega (arith, room)) c.new.ensures in
@@ -36,9 +36,9 @@ returns c =
       answer = λ C. rw (lt-ltb (length (corrections_in t)) 8 below) (ap (λ m. Ok (numbers t.number m)) number);
     }
 
-pub returns-then-opened-ge-MOST-CORRECTIONS : goal.returns-then-opened-ge-MOST-CORRECTIONS
-returns-then-opened-ge-MOST-CORRECTIONS c =
+pub returns-then-opened-ge-MOST_CORRECTIONS : goal.returns-then-opened-ge-MOST_CORRECTIONS
+returns-then-opened-ge-MOST_CORRECTIONS c =
     let t = c.args.self.now in
     let few : t.opened ≤ length t.corrections = omega (arith, t.places) in
-    let full : 8 ≤ length (corrections_in t) = omega (arith, opened-is t few, sliced t few, c.if-opened-ge-MOST-CORRECTIONS.true) in
+    let full : 8 ≤ length (corrections_in t) = omega (arith, opened-is t few, sliced t few, c.if-opened-ge-MOST_CORRECTIONS.true) in
     record { next = λ C. rw (le-ltb (length (corrections_in t)) 8 full); answer = λ C. rw (le-ltb (length (corrections_in t)) 8 full) }

@@ -5,15 +5,15 @@ use Rattle.model.specs.Rules.{other_marked}
 use Rattle.table.specs.States.{jobs_in}
 use Rattle.table.proofs.Tabling.{row_at, other_found, other_next, other_self, other_end, jobs-few}
 use Rattle.table.proofs.table.Table.other_marked.Goals as goal
-use Rattle.table.proofs.table.Table.other_marked.Goals.{else-k-i-via-then-k-i+else-is-marked, else-k-i-via-else-k-i}
+use Rattle.table.proofs.table.Table.other_marked.Goals.{else-k-i-via-then-k-i+else-is_marked, else-k-i-via-else-k-i}
 
-pub returns-then-is-marked : goal.returns-then-is-marked
-returns-then-is-marked c =
+pub returns-then-is_marked : goal.returns-then-is_marked
+returns-then-is_marked c =
     let t = c.args.self.now in
     let k = c.loop-k.k in
     let b = get_or t.jobs k c.index-self-k.result in
     ap Some (add-one k)
-    ∙ sym (other_found (suc c.args.i) k (jobs_in t) (job_of b) (row_at job_of t.jobs t.count k b c.loop-k-test.true (slice_get-get_or t.jobs k _ (omega (arith, t.few)))) (sym c.if-is-marked.ensures) (λ q. c.if-k-i.true (omega arith)))
+    ∙ sym (other_found (suc c.args.i) k (jobs_in t) (job_of b) (row_at job_of t.jobs t.count k b c.loop-k-test.true (slice_get-get_or t.jobs k _ (omega (arith, t.few)))) (sym c.if-is_marked.ensures) (λ q. c.if-k-i.true (omega arith)))
     ∙ c.loop-k.invariant
 
 pub loop-k-preserved : goal.loop-k-preserved
@@ -22,9 +22,9 @@ loop-k-preserved c =
     let k = c.loop-k.k in
     ap (λ (m : ℕ). other_marked (suc c.args.i) (suc m) (drop m (jobs_in t))) (add-one k)
     ∙ elim c.else-k-i.branch [
-      | else-k-i-via-then-k-i+else-is-marked w ↦
+      | else-k-i-via-then-k-i+else-is_marked w ↦
           (let b = get_or t.jobs k w.index-self-k.result in
-          sym (other_next (suc c.args.i) k (jobs_in t) (job_of b) (row_at job_of t.jobs t.count k b c.loop-k-test.true (slice_get-get_or t.jobs k _ (omega (arith, t.few)))) (sym w.is-marked.ensures ∙ w.if-is-marked.false)))
+          sym (other_next (suc c.args.i) k (jobs_in t) (job_of b) (row_at job_of t.jobs t.count k b c.loop-k-test.true (slice_get-get_or t.jobs k _ (omega (arith, t.few)))) (sym w.is_marked.ensures ∙ w.if-is_marked.false)))
       | else-k-i-via-else-k-i w ↦ sym (other_self (suc c.args.i) k (jobs_in t) (ap suc w.if-k-i.false))
     ]
     ∙ c.loop-k.invariant

@@ -7,24 +7,24 @@ use Rattle.table.specs.States.{state_of}
 use Rattle.table.proofs.Tabling.{row_at, row-set, room_kept, done_write, with_same}
 use Rattle.table.proofs.table.Table.take_write.Goals as goal
 
-pub invariant-of-self : goal.invariant-of-self
-invariant-of-self c =
+pub invariant_of-self : goal.invariant_of-self
+invariant_of-self c =
     let t = c.args.self.now in
-    let x = c.take-write-at.ensures in
-    (t.few, (t.wide, (room_kept t.joined (unclosed (take t.opened t.corrections)) t.opened c.args.i t.jobs c.take-write-at.new.jobs x.0 x.1 x.2 x.3 (done_write x.0 x.1 c.take-write-at.result x.4) t.room, (t.places, tt))))
+    let x = c.take_write_at.ensures in
+    record { few = t.few; wide = t.wide; room = room_kept t.joined (unclosed (take t.opened t.corrections)) t.opened c.args.i t.jobs c.take_write_at.new.jobs x.0 x.1 x.2 x.3 (done_write x.0 x.1 c.take_write_at.result x.4) t.room; places = t.places }
 
-pub invariant-of-self-in-None : goal.invariant-of-self-in-None
-invariant-of-self-in-None c =
+pub invariant_of-self-in-None : goal.invariant_of-self-in-None
+invariant_of-self-in-None c =
     let t = c.args.self.now in
-    let x = c.take-write-at.ensures in
-    (t.few, (t.wide, (room_kept t.joined (unclosed (take t.opened t.corrections)) t.opened c.args.i t.jobs c.take-write-at.new.jobs x.0 x.1 x.2 x.3 (done_write x.0 x.1 c.take-write-at.result x.4) t.room, (t.places, tt))))
+    let x = c.take_write_at.ensures in
+    record { few = t.few; wide = t.wide; room = room_kept t.joined (unclosed (take t.opened t.corrections)) t.opened c.args.i t.jobs c.take_write_at.new.jobs x.0 x.1 x.2 x.3 (done_write x.0 x.1 c.take_write_at.result x.4) t.room; places = t.places }
 
 pub returns-in-Some : goal.returns-in-Some
 returns-in-Some c =
     let t = c.args.self.now in
     let i = c.args.i in
-    let x = c.take-write-at.ensures in
-    let e = row-set job_of t.count i t.jobs c.take-write-at.new.jobs x.1 (job_of x.1) c.requires x.3 refl in (
+    let x = c.take_write_at.ensures in
+    let e = row-set job_of t.count i t.jobs c.take_write_at.new.jobs x.1 (job_of x.1) c.requires x.3 refl in (
       job_of x.0,
       job_of x.1,
       row_at job_of t.jobs t.count i x.0 c.requires x.2,
@@ -37,10 +37,10 @@ pub returns-in-None : goal.returns-in-None
 returns-in-None c =
     let t = c.args.self.now in
     let i = c.args.i in
-    let x = c.take-write-at.ensures in
+    let x = c.take_write_at.ensures in
     let none = subst (WriteOf (job_of x.0) (job_of x.1)) c.in-None.is x.4 in
     let h = row_at job_of t.jobs t.count i x.0 c.requires x.2 in
-    let e = row-set job_of t.count i t.jobs c.take-write-at.new.jobs x.1 (job_of x.0) c.requires x.3 none.1 in (
+    let e = row-set job_of t.count i t.jobs c.take_write_at.new.jobs x.1 (job_of x.0) c.requires x.3 none.1 in (
       job_of x.0,
       job_of x.1,
       h,

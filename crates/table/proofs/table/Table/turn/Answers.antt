@@ -7,21 +7,21 @@ use Rattle.table.specs.States.{state_of}
 use Rattle.table.proofs.Rules.{refused, rests, goes, takes, still, at-number}
 use Rattle.table.proofs.table.Table.turn.Goals as goal
 
-pub returns-in-default : goal.returns-in-default
-returns-in-default g c =
+pub returns-in_default : goal.returns-in_default
+returns-in_default g c =
     let s = state_of (g.S.Store.cells c.args.store.now) c.args.self.now in
-    let x = refused s c.args.job c.in-default.ensures in
+    let x = refused s c.args.job c.in_default.ensures in
     record { next = x.0; answer = x.1; loan = refl }
 
-pub take-right-requires : goal.take-right-requires
-take-right-requires g c = omega (arith, c.in-Some.ensures.1, c.turn-job.ensures.5)
+pub take_right-requires : goal.take_right-requires
+take_right-requires g c = omega (arith, c.in-Some.ensures.1, c.turn_job.ensures.5)
 
 pub commit-requires : goal.commit-requires
 commit-requires g c =
     let C = g.S.Store.cells c.args.store.now in
     let s = state_of C c.args.self.now in
     let i = c.in-Some.i in
-    let w = c.turn-job.ensures in
+    let w = c.turn_job.ensures in
     let m = subst (Comes s (suc i) w.0 w.1) c.in-Commits.is (w.4 s (suc i) refl refl) in
     let kept = still s _ i w.0 w.2 w.1 (w.3 C) m in
     record { place = omega (arith, c.in-Some.ensures.1, w.5); stage = (w.0, ap (λ z. at z.jobs (suc i)) kept ∙ w.2, m.1) }
@@ -31,7 +31,7 @@ returns-in-NoRule g c =
     let C = g.S.Store.cells c.args.store.now in
     let s = state_of C c.args.self.now in
     let i = c.in-Some.i in
-    let w = c.turn-job.ensures in
+    let w = c.turn_job.ensures in
     let m = subst (Comes s (suc i) w.0 w.1) c.in-NoRule.is (w.4 s (suc i) refl refl) in
     let x = at-number s _ c.args.job i (Ok None) c.in-Some.ensures.0 (rests s _ i w.0 w.2 w.1 (w.3 C) m) in
     record { next = x.0; answer = x.1; loan = refl }
@@ -41,7 +41,7 @@ returns-in-Applies g c =
     let C = g.S.Store.cells c.args.store.now in
     let s = state_of C c.args.self.now in
     let i = c.in-Some.i in
-    let w = c.turn-job.ensures in
+    let w = c.turn_job.ensures in
     let m = subst (Comes s (suc i) w.0 w.1) c.in-Applies.is (w.4 s (suc i) refl refl) in
     let x = at-number s _ c.args.job i (Ok (Some c.in-Applies.applied)) c.in-Some.ensures.0 (goes s _ i w.0 w.2 w.1 c.in-Applies.applied (w.3 C) m) in
     record { next = x.0; answer = x.1; loan = refl }
@@ -51,11 +51,11 @@ returns-in-Takes g c =
     let C = g.S.Store.cells c.args.store.now in
     let s = state_of C c.args.self.now in
     let i = c.in-Some.i in
-    let w = c.turn-job.ensures in
+    let w = c.turn_job.ensures in
     let m = subst (Comes s (suc i) w.0 w.1) c.in-Takes.is (w.4 s (suc i) refl refl) in
     let x =
     at-number s _ c.args.job i (Ok (Some (record { rule = V3; cell = None }))) c.in-Some.ensures.0
-    (takes s _ i w.0 w.2 w.1 (state_of C c.turn-job.new.self) (w.3 C) (c.take-right.ensures C) m) in
+    (takes s _ i w.0 w.2 w.1 (state_of C c.turn_job.new.self) (w.3 C) (c.take_right.ensures C) m) in
     record { next = x.0; answer = x.1; loan = refl }
 
 pub returns-in-Commits : goal.returns-in-Commits
@@ -63,7 +63,7 @@ returns-in-Commits g c =
     let C = g.S.Store.cells c.args.store.now in
     let s = state_of C c.args.self.now in
     let i = c.in-Some.i in
-    let w = c.turn-job.ensures in
+    let w = c.turn_job.ensures in
     let m = subst (Comes s (suc i) w.0 w.1) c.in-Commits.is (w.4 s (suc i) refl refl) in
     let kept = still s _ i w.0 w.2 w.1 (w.3 C) m in
     let x = at-number s _ c.args.job i (Ok (Some c.commit.result)) c.in-Some.ensures.0 (c.commit.ensures.next ∙ ap (λ z. (turn z (suc i)).next) kept, c.commit.ensures.answer ∙ ap (λ z. (turn z (suc i)).answer) kept) in

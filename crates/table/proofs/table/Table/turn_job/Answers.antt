@@ -5,19 +5,19 @@ use Rattle.table.specs.States.{state_of}
 use Rattle.table.proofs.Tabling.{row-set, row_at, room_kept, same-done}
 use Rattle.table.proofs.table.Table.turn_job.Goals as goal
 
-pub invariant-of-self : goal.invariant-of-self
-invariant-of-self g c =
+pub invariant_of-self : goal.invariant_of-self
+invariant_of-self g c =
     let t = c.args.self.now in
     let s = state_of (g.S.Store.cells c.args.store.now) t in
-    let x = c.turn-at.ensures in
-    (t.few, (t.wide, (room_kept t.joined (unclosed (take t.opened t.corrections)) t.opened c.args.i t.jobs c.turn-at.new.jobs x.0 x.1 x.2 x.3 (same-done s 0 (job_of x.0) (job_of x.1) c.turn-at.result (x.4 s 0 refl refl)) t.room, (t.places, tt))))
+    let x = c.turn_at.ensures in
+    record { few = t.few; wide = t.wide; room = room_kept t.joined (unclosed (take t.opened t.corrections)) t.opened c.args.i t.jobs c.turn_at.new.jobs x.0 x.1 x.2 x.3 (same-done s 0 (job_of x.0) (job_of x.1) c.turn_at.result (x.4 s 0 refl refl)) t.room; places = t.places }
 
 pub returns : goal.returns
 returns g c =
     let t = c.args.self.now in
     let i = c.args.i in
-    let x = c.turn-at.ensures in
-    let e = row-set job_of t.count i t.jobs c.turn-at.new.jobs x.1 (job_of x.1) c.requires x.3 refl in (
+    let x = c.turn_at.ensures in
+    let e = row-set job_of t.count i t.jobs c.turn_at.new.jobs x.1 (job_of x.1) c.requires x.3 refl in (
       job_of x.0,
       job_of x.1,
       row_at job_of t.jobs t.count i x.0 c.requires x.2,
