@@ -7,6 +7,6 @@ use Rattle.batch.proofs.output.report_words.Goals as goal
 all_cells : (count : ℕ) → count ≤ 4096 → take 65536 (replicate {A = ℕ} count 0) ≡ replicate count 0
 all_cells count few = take_all 65536 (replicate count 0) (omega (arith, length-replicate {A = ℕ} count 0))
 
-pub report-over-table-requires : goal.report-over-table-requires
-report-over-table-requires c =
+pub report_over-table-requires : goal.report_over-table-requires
+report_over-table-requires c =
     record { cells = ap word_cells (c.new.ensures.words ∙ c.requires.words) ∙ all_cells c.args.script.now.count c.requires.within.few_cells; within = c.requires.within }

@@ -19,9 +19,9 @@ returns g c =
     ∙ (ap (λ (ps : List Preset). preset_in (cells c.args.store) ps) c.presets.ensures ∙ ap (λ (cs : List ℕ). preset_in cs s.presets) c.requires.cells) in
     let fresh = c.new-intake.ensures.intake ∙ ap (λ (cs : List ℕ). intake 1 cs []) preset in
     let admitted =
-    c.admit-all.ensures
+    c.admit_all.ensures
     ∙ (ap (λ (js : List (List Step)). admit_all (intake_in cells c.new-intake.result) js) c.jobs.ensures ∙ ap (λ (i : Intake). admit_all i s.jobs) fresh) in
-    let i = intake_in cells c.admit-all.new.intake in
+    let i = intake_in cells c.admit_all.new.intake in
     let s₀ = state cells c.seal-run.result in
     let s₁ = state cells c.play.new.run in
     let played : s₁ ≡ after s₀ (calls_of s.turns) = c.play.ensures ∙ ap (λ (ts : List Allotment). after s₀ (calls_of ts)) c.turns.ensures in

@@ -4,19 +4,19 @@ use Rattle.batch.specs.Reports.{has_committed}
 use Rattle.batch.proofs.Reporting.{committed_next, committed_over}
 use Rattle.batch.proofs.reports.has_committed.Goals as goal
 
-pub returns-then-stands-at : goal.returns-then-stands-at
-returns-then-stands-at g c =
+pub returns-then-stands_at : goal.returns-then-stands_at
+returns-then-stands_at g c =
     let order = (state g.S.Store.cells c.args.run.now).order in
     let j = c.args.job in
     let k = c.loop-k.k in
-    sym (ap (λ t. t || has_committed (drop (k + 1) order) j) (sym c.stands-at.ensures ∙ c.if-stands-at.true)) ∙ (sym (committed_next order k j) ∙ c.loop-k.invariant)
+    sym (ap (λ t. t || has_committed (drop (k + 1) order) j) (sym c.stands_at.ensures ∙ c.if-stands_at.true)) ∙ (sym (committed_next order k j) ∙ c.loop-k.invariant)
 
 pub loop-k-preserved : goal.loop-k-preserved
 loop-k-preserved g c =
     let order = (state g.S.Store.cells c.args.run.now).order in
     let j = c.args.job in
     let k = c.loop-k.k in
-    sym (ap (λ t. t || has_committed (drop (k + 1) order) j) (sym c.stands-at.ensures ∙ c.if-stands-at.false)) ∙ (sym (committed_next order k j) ∙ c.loop-k.invariant)
+    sym (ap (λ t. t || has_committed (drop (k + 1) order) j) (sym c.stands_at.ensures ∙ c.if-stands_at.false)) ∙ (sym (committed_next order k j) ∙ c.loop-k.invariant)
 
 pub returns : goal.returns
 returns g c =

@@ -10,8 +10,8 @@ loop-cell-preserved g c =
     let s = state g.S.Store.cells c.args.run.now in
     let cells = s.cells in
     let k = c.loop-cell.cell in
-    one_more (string_bytes c.write-cell.new.out) (string_bytes c.loop-cell.out) (string_bytes c.args.out.now) (answer_text k (cell_answer s k)) (cells_text k (drop k cells)) (cells_text (k + 1) (drop (k + 1) cells)) (cells_text 0 cells)
-    c.in-ok-write-cell.ensures (cells-next s k) c.loop-cell.invariant
+    one_more (string_bytes c.write_cell.new.out) (string_bytes c.loop-cell.out) (string_bytes c.args.out.now) (answer_text k (cell_answer s k)) (cells_text k (drop k cells)) (cells_text (k + 1) (drop (k + 1) cells)) (cells_text 0 cells)
+    c.in_ok-write_cell.ensures (cells-next s k) c.loop-cell.invariant
 
 pub returns : goal.returns
 returns g c =

@@ -9,8 +9,8 @@ pub loop-k-preserved : goal.loop-k-preserved
 loop-k-preserved g c =
     let s = state g.S.Store.cells c.args.run.now in
     let k = c.loop-k.k in
-    one_more (string_bytes c.write-job.new.out) (string_bytes c.loop-k.out) (string_bytes c.args.out.now) (job_text s.order (k + 1) (at s.jobs (k + 1))) (jobs_text s.order (k + 1) (drop k s.jobs)) (jobs_text s.order (k + 1 + 1) (drop (k + 1) s.jobs)) (jobs_text s.order 1 s.jobs)
-    c.in-ok-write-job.ensures (jobs-next s.order s.jobs k) c.loop-k.invariant
+    one_more (string_bytes c.write_job.new.out) (string_bytes c.loop-k.out) (string_bytes c.args.out.now) (job_text s.order (k + 1) (at s.jobs (k + 1))) (jobs_text s.order (k + 1) (drop k s.jobs)) (jobs_text s.order (k + 1 + 1) (drop (k + 1) s.jobs)) (jobs_text s.order 1 s.jobs)
+    c.in_ok-write_job.ensures (jobs-next s.order s.jobs k) c.loop-k.invariant
 
 pub returns : goal.returns
 returns g c =

@@ -9,8 +9,8 @@ pub loop-k-preserved : goal.loop-k-preserved
 loop-k-preserved g c =
     let order = (state g.S.Store.cells c.args.run.now).order in
     let k = c.loop-k.k in
-    one_more (string_bytes c.write-place.new.out) (string_bytes c.loop-k.out) (string_bytes c.args.out.now) (entry_text (k + 1) (at order (k + 1))) (order_text (k + 1) (drop k order)) (order_text (k + 1 + 1) (drop (k + 1) order)) (order_text 1 order)
-    c.in-ok-write-place.ensures (order-next order k) c.loop-k.invariant
+    one_more (string_bytes c.write_place.new.out) (string_bytes c.loop-k.out) (string_bytes c.args.out.now) (entry_text (k + 1) (at order (k + 1))) (order_text (k + 1) (drop k order)) (order_text (k + 1 + 1) (drop (k + 1) order)) (order_text 1 order)
+    c.in_ok-write_place.ensures (order-next order k) c.loop-k.invariant
 
 pub returns : goal.returns
 returns g c =

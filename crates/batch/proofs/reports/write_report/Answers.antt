@@ -9,9 +9,9 @@ pub returns : goal.returns
 returns g c =
     let s = state g.S.Store.cells c.args.run.now in
     let before = string_bytes c.args.out.now in
-    let ordered = string_bytes c.write-order.new.out in
-    let listed = string_bytes c.write-jobs.new.out in
-    let written = string_bytes c.write-cells.new.out in
-    IfOk-weaker c.write-cells.result (λ done. written ≡ listed ++ cells_text 0 s.cells) (λ done. written ≡ before ++ report_text s)
-    (λ done e. three_parts before ordered listed written (order_text 1 s.order) (jobs_text s.order 1 s.jobs) (cells_text 0 s.cells) c.in-ok-write-order.ensures c.in-ok-write-jobs.ensures e)
-    c.write-cells.ensures
+    let ordered = string_bytes c.write_order.new.out in
+    let listed = string_bytes c.write_jobs.new.out in
+    let written = string_bytes c.write_cells.new.out in
+    IfOk-weaker c.write_cells.result (λ done. written ≡ listed ++ cells_text 0 s.cells) (λ done. written ≡ before ++ report_text s)
+    (λ done e. three_parts before ordered listed written (order_text 1 s.order) (jobs_text s.order 1 s.jobs) (cells_text 0 s.cells) c.in_ok-write_order.ensures c.in_ok-write_jobs.ensures e)
+    c.write_cells.ensures

@@ -10,7 +10,7 @@ pub loop-k-preserved : goal.loop-k-preserved
 loop-k-preserved g c =
     let turns = c.args.turns.now in
     let k = c.loop-k.k in
-    ap (λ (t : State). after t (calls_of (drop (k + 1) turns))) c.give-turns.ensures
+    ap (λ (t : State). after t (calls_of (drop (k + 1) turns))) c.give_turns.ensures
     ∙ (sym (next-turns turns k _ (state g.S.Store.cells c.loop-k.run) c.loop-k-test.true) ∙ c.loop-k.invariant)
 
 pub returns : goal.returns

@@ -19,13 +19,13 @@ loop-k-preserved g c =
       c.turn.ensures.loan ∙ c.loop-k.invariant.1,
     )
 
-pub returns-in-default : goal.returns-in-default
-returns-in-default g c =
+pub returns-in_default : goal.returns-in_default
+returns-in_default g c =
     let s = state g.S.Store.cells c.loop-k.self in
     let s₀ = state g.S.Store.cells c.args.self.now in
     let n = c.len-most.result + 25 in
     record {
-      next = sym (settle_free s (n - c.loop-k.k) (sym c.right.ensures ∙ c.in-default.is)) ∙ c.loop-k.invariant.0 ∙ ap (λ (m : ℕ). (settle_in (m + 25) s₀).next) c.len-most.ensures.value;
+      next = sym (settle_free s (n - c.loop-k.k) (sym c.right.ensures ∙ c.in_default.is)) ∙ c.loop-k.invariant.0 ∙ ap (λ (m : ℕ). (settle_in (m + 25) s₀).next) c.len-most.ensures.value;
       loan = c.loop-k.invariant.1;
     }
 
