@@ -1,4 +1,4 @@
--- Every play of a well_formed_lem program comes to a step that waits or ends.
+-- Every play of a well-formed program comes to a step that waits or ends.
 use Rattle.std.proofs.Common.{◌≡◌, ℕ, zero, suc, ◌+◌, ◌<◌, ◌≤◌, false, List, length, Some, refl, ap, ◌∙◌, arith}
 use Rattle.std.specs.List.{slice_get}
 use Rattle.model.specs.Steps.{following}

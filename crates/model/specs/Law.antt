@@ -167,7 +167,7 @@ left_by s₀ calls = replayed (parts_of s₀ (events_of s₀ (calls ++ Settle �
 abbrev pub ClosingIsSerial : Type 0
 ClosingIsSerial = (s₀ : State) → Lawful s₀ → (calls : List Call) → closed_cells (after s₀ calls) ≡ left_by s₀ calls
 
--- Every play of a well_formed_lem program comes to a step that waits or ends, and is over there: a play is never over because
+-- Every play of a well-formed program comes to a step that waits or ends, and is over there: a play is never over because
 -- it has gone past the last step or taken too many.
 pub record StopsAtStep (program : List Step) (cells : List ℕ) (play : Play) : Type 0 where
   pub player : Player
