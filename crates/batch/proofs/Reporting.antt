@@ -32,15 +32,15 @@ order-drop [] (suc k) place = refl
 order-drop (p ∷ order) zero place = refl
 order-drop (p ∷ order) (suc k) place = order-drop order k place
 
-pub order-next : (order : List Party) (k : ℕ) → order_text (k + 1) (drop k order) ≡ entry_text (k + 1) (at order (k + 1)) ++ order_text (k + 1 + 1) (drop (k + 1) order)
-order-next order k =
+pub order_next : (order : List Party) (k : ℕ) → order_text (k + 1) (drop k order) ≡ entry_text (k + 1) (at order (k + 1)) ++ order_text (k + 1 + 1) (drop (k + 1) order)
+order_next order k =
     order-drop order k (k + 1)
     ∙ (ap (λ o. entry_text (k + 1) o ++ order_text (suc (k + 1)) (drop (suc k) order)) (sym (at_next order k))
     ∙ (ap (λ (n : ℕ). entry_text (k + 1) (at order (k + 1)) ++ order_text n (drop (suc k) order)) (sym (add-one (k + 1)))
     ∙ ap (λ (n : ℕ). entry_text (k + 1) (at order (k + 1)) ++ order_text (k + 1 + 1) (drop n order)) (sym (add-one k))))
 
-pub order-over : (order : List Party) (k place : ℕ) → length order ≤ k → order_text place (drop k order) ≡ []
-order-over order k place l = at_drop_all (order_text place) order k l
+pub order_over : (order : List Party) (k place : ℕ) → length order ≤ k → order_text place (drop k order) ≡ []
+order_over order k place l = at_drop_all (order_text place) order k l
 
 -- Who has committed.
 committed_drop : (order : List Party) (k j : ℕ) → has_committed (drop k order) j ≡ (is_job j (slice_get order k) || has_committed (drop (suc k) order) j)
@@ -64,15 +64,15 @@ jobs-drop order [] (suc k) j = refl
 jobs-drop order (b ∷ jobs) zero j = refl
 jobs-drop order (b ∷ jobs) (suc k) j = jobs-drop order jobs k j
 
-pub jobs-next : (order : List Party) (jobs : List JobState) (k : ℕ) → jobs_text order (k + 1) (drop k jobs) ≡ job_text order (k + 1) (at jobs (k + 1)) ++ jobs_text order (k + 1 + 1) (drop (k + 1) jobs)
-jobs-next order jobs k =
+pub jobs_next : (order : List Party) (jobs : List JobState) (k : ℕ) → jobs_text order (k + 1) (drop k jobs) ≡ job_text order (k + 1) (at jobs (k + 1)) ++ jobs_text order (k + 1 + 1) (drop (k + 1) jobs)
+jobs_next order jobs k =
     jobs-drop order jobs k (k + 1)
     ∙ (ap (λ o. job_text order (k + 1) o ++ jobs_text order (suc (k + 1)) (drop (suc k) jobs)) (sym (at_next jobs k))
     ∙ (ap (λ (n : ℕ). job_text order (k + 1) (at jobs (k + 1)) ++ jobs_text order n (drop (suc k) jobs)) (sym (add-one (k + 1)))
     ∙ ap (λ (n : ℕ). job_text order (k + 1) (at jobs (k + 1)) ++ jobs_text order (k + 1 + 1) (drop n jobs)) (sym (add-one k))))
 
-pub jobs-over : (order : List Party) (jobs : List JobState) (k j : ℕ) → length jobs ≤ k → jobs_text order j (drop k jobs) ≡ []
-jobs-over order jobs k j l = at_drop_all (jobs_text order j) jobs k l
+pub jobs_over : (order : List Party) (jobs : List JobState) (k j : ℕ) → length jobs ≤ k → jobs_text order j (drop k jobs) ≡ []
+jobs_over order jobs k j l = at_drop_all (jobs_text order j) jobs k l
 
 -- The cells.
 cells-drop : (cells : List ℕ) (k cell : ℕ) → cells_text cell (drop k cells) ≡ cell_text cell (slice_get cells k) ++ cells_text (suc cell) (drop (suc k) cells)
@@ -102,8 +102,8 @@ cell_line_at s cell false e = ap (λ t. answer_text cell (cond t (Ok (cell_of s.
 cell_line : (s : State) (cell : ℕ) → answer_text cell (cell_answer s cell) ≡ cell_text cell (slice_get s.cells cell)
 cell_line s cell = cell_line_at s cell (ltb cell (length s.cells)) refl
 
-pub cells-next : (s : State) (k : ℕ) → cells_text k (drop k s.cells) ≡ answer_text k (cell_answer s k) ++ cells_text (k + 1) (drop (k + 1) s.cells)
-cells-next s k =
+pub cells_next : (s : State) (k : ℕ) → cells_text k (drop k s.cells) ≡ answer_text k (cell_answer s k) ++ cells_text (k + 1) (drop (k + 1) s.cells)
+cells_next s k =
     cells-drop s.cells k k
     ∙ (ap (λ (n : ℕ). cell_text k (slice_get s.cells k) ++ cells_text n (drop (suc k) s.cells)) (sym (add-one k))
     ∙ (ap (λ (n : ℕ). cell_text k (slice_get s.cells k) ++ cells_text (k + 1) (drop n s.cells)) (sym (add-one k))

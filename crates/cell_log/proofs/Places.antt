@@ -20,14 +20,14 @@ has_further e l c o f r h s =
       removes = rw ne (ap (λ (z : Log). e ∷ z) s.removes);
     }
 
-placed-further : (e : Entry) (l : Log) (c : ℕ) (o : Result ℕ ℕ) → e.cell < c → Placed l c o → Placed (e ∷ l) c (further 1 o)
-placed-further e l c (Ok i) h s =
+placed_further : (e : Entry) (l : Log) (c : ℕ) (o : Result ℕ ℕ) → e.cell < c → Placed l c o → Placed (e ∷ l) c (further 1 o)
+placed_further e l c (Ok i) h s =
     subst (λ k. Placed (e ∷ l) c (Ok k)) (sym (one-add i)) (omega (arith, s.0), has_further e l c _ _ _ h s.1)
-placed-further e l c (Err i) h s =
+placed_further e l c (Err i) h s =
     subst (λ k. Placed (e ∷ l) c (Err k)) (sym (one-add i)) (omega (arith, s.0), has_further e l c _ _ _ h s.1)
 
-placed-here : (e : Entry) (l : Log) (c : ℕ) → e.cell ≡ c → Placed (e ∷ l) c (Ok 0)
-placed-here e l c h =
+placed_here : (e : Entry) (l : Log) (c : ℕ) → e.cell ≡ c → Placed (e ∷ l) c (Ok 0)
+placed_here e l c h =
     let q = eq-eqb e.cell c h in
     (omega arith, record { found = rw q; puts = λ n. rw q; removes = rw q })
 
@@ -50,10 +50,10 @@ pub placed : (l : Log) (c : ℕ) → Ascending l → Placed l c (place_in l c)
 placed [] c h = (omega arith, record { found = refl; puts = λ n. refl; removes = refl })
 placed (e ∷ l) c h =
     by_cond (Placed (e ∷ l) c) (ltb e.cell c) _ _
-    (λ t. placed-further e l c (place_in l c) (ltb-true e.cell c t) (placed l c h.1))
+    (λ t. placed_further e l c (place_in l c) (ltb-true e.cell c t) (placed l c h.1))
     (λ t.
     by_cond (Placed (e ∷ l) c) (eqb e.cell c) _ _
-    (λ q. placed-here e l c (eqb-true e.cell c q))
+    (λ q. placed_here e l c (eqb-true e.cell c q))
     (λ q.
     let ge : c ≤ e.cell = ltb-false e.cell c t in
     let ne : e.cell ≡ c → ⊥ = eqb-false e.cell c q in

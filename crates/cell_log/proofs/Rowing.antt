@@ -43,10 +43,10 @@ row_inserted xs ys n i v h w made =
     ∙ set_at (take i xs) (entry_at xs i) (take k (drop i xs)) v i (length-take-le i xs (omega arith))
     ∙ (λ j. sym (take-take i n xs h) j ++ v ∷ rest_of xs n i h j)
 
-pub lowest-first : (xs : Log) (n : ℕ) → 0 < n → 0 < length xs → Some (entry_at xs 0).cell ≡ lowest any (take n xs)
-lowest-first [] n h w = absurd (omega arith)
-lowest-first (x ∷ xs) zero h w = absurd (omega arith)
-lowest-first (x ∷ xs) (suc n) h w = refl
+pub lowest_first : (xs : Log) (n : ℕ) → 0 < n → 0 < length xs → Some (entry_at xs 0).cell ≡ lowest any (take n xs)
+lowest_first [] n h w = absurd (omega arith)
+lowest_first (x ∷ xs) zero h w = absurd (omega arith)
+lowest_first (x ∷ xs) (suc n) h w = refl
 
 pub from_start : (r : LogRow) (b : Bool) → r.len ≤ 24 → b ≡ ascends (take (r.len - 0) r.entries) → b ≡ sound r
 from_start r b n e = let k : b ≡ ascends (entries_of r) = rw (sub-zero r.len) at e in rw (le-leb r.len 24 n) k

@@ -45,7 +45,7 @@ impl Log {
             Ok(i) => Some(Log {
                 row: self.row.replace(i, entry),
             }),
-            Err(i) if self.row.len < ROOM => Some(Log {
+            Err(i) if self.len() < ROOM => Some(Log {
                 row: self.row.insert(i, entry),
             }),
             Err(_) => None,

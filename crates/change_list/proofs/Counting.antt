@@ -21,10 +21,10 @@ tally_le (suc n) cs =
     (λ (e : touches cs n ≡ false). rw e (omega arith))
     (cases_Bool (touches cs n))
 
-tally-past : (n : ℕ) (c : Change) (cs : List Change) → n ≤ c.cell → tally n (c ∷ cs) ≡ tally n cs
+tally_past : (n : ℕ) (c : Change) (cs : List Change) → n ≤ c.cell → tally n (c ∷ cs) ≡ tally n cs
 unfolding tally
-tally-past zero c cs h = refl
-tally-past (suc n) c cs h = rw (ne_eqb c.cell n (λ e. omega arith), tally-past n c cs (omega arith))
+tally_past zero c cs h = refl
+tally_past (suc n) c cs h = rw (ne_eqb c.cell n (λ e. omega arith), tally_past n c cs (omega arith))
 
 tally_fresh : (n : ℕ) (c : Change) (cs : List Change) → c.cell < n → touches cs c.cell ≡ false → tally n (c ∷ cs) ≡ suc (tally n cs)
 unfolding tally
@@ -33,7 +33,7 @@ tally_fresh (suc n) c cs h f =
     ⊎_elim
     (λ (e : c.cell ≡ n).
     let g : touches cs n ≡ false = rw e at f in
-    rw (eq-eqb c.cell n e, tally-past n c cs (omega arith), g) (omega arith))
+    rw (eq-eqb c.cell n e, tally_past n c cs (omega arith), g) (omega arith))
     (λ (e : c.cell ≡ n → ⊥). rw (ne_eqb c.cell n e, tally_fresh n c cs (omega arith) f) (omega arith))
     (cases_eq c.cell n)
 
@@ -58,5 +58,5 @@ newest-tally n (c ∷ cs) h =
     (cases_Bool (touches cs c.cell))
 
 -- The pigeonhole: changes to different cells below n are at most n.
-pub newest-few : (n : ℕ) (cs : List Change) → sound n cs ≡ true → length (newest cs) ≤ n
-newest-few n cs h = omega (arith, newest-tally n cs (all_from_sound n cs h), tally_le n cs)
+pub newest_few : (n : ℕ) (cs : List Change) → sound n cs ≡ true → length (newest cs) ≤ n
+newest_few n cs h = omega (arith, newest-tally n cs (all_from_sound n cs h), tally_le n cs)

@@ -72,11 +72,11 @@ sound_kept xs ys used len e l h =
     let count = cell_count (length xs) in
     rw (e, l) (sound_from_all count (newest (take used xs)) (all_newest (Sound count) (take used xs) (all_from_sound count (take used xs) h)))
 
-pub room-left : (room : ℕ) (cs : List Change) → length cs < room → with_room room cs ≡ cs
-room-left room cs h = rw (lt-ltb (length cs) room h)
+pub room_left : (room : ℕ) (cs : List Change) → length cs < room → with_room room cs ≡ cs
+room_left room cs h = rw (lt-ltb (length cs) room h)
 
-pub room-none : (room : ℕ) (cs : List Change) → room ≤ length cs → with_room room cs ≡ newest cs
-room-none room cs h = rw (le-ltb (length cs) room h)
+pub room_none : (room : ℕ) (cs : List Change) → room ≤ length cs → with_room room cs ≡ newest cs
+room_none room cs h = rw (le-ltb (length cs) room h)
 
 replay-room : (room : ℕ) (cells : List ℕ) (cs : List Change) → replay cells (with_room room cs) ≡ replay cells cs
 replay-room room cells cs =
@@ -89,15 +89,15 @@ replay-room room cells cs =
 pub added : (ys : List Change) (used : ℕ) (x : Change) (cs : List Change) → used < length ys → take used ys ≡ cs → take (used + 1) (set ys used x) ≡ cs ++ x ∷ []
 added ys used x cs l e = take_more_set ys used x l ∙ ap (λ (zs : List Change). zs ++ x ∷ []) e
 
-pub cells-added : (xs ys : List Change) (used n : ℕ) (x : Change) → n < length ys → length ys ≡ length xs → take n ys ≡ with_room (length xs) (take used xs)
+pub cells_added : (xs ys : List Change) (used n : ℕ) (x : Change) → n < length ys → length ys ≡ length xs → take n ys ≡ with_room (length xs) (take used xs)
     → list_cells (set ys n x) (n + 1) ≡ set (list_cells xs used) x.cell x.number
-cells-added xs ys used n x l m e =
+cells_added xs ys used n x l m e =
     let start = zeros (cell_count (length xs)) in
     rw (length-set ys n x, m, added ys n x (with_room (length xs) (take used xs)) l e, replay-push start (with_room (length xs) (take used xs)) x, replay-room (length xs) start (take used xs))
 
-pub sound-added : (ys : List Change) (n : ℕ) (x : Change) → n < length ys → x.cell < cell_count (length ys) → x.number < 2 ^ 32 → sound (cell_count (length ys)) (take n ys) ≡ true
+pub sound_added : (ys : List Change) (n : ℕ) (x : Change) → n < length ys → x.cell < cell_count (length ys) → x.number < 2 ^ 32 → sound (cell_count (length ys)) (take n ys) ≡ true
     → sound (cell_count (length (set ys n x))) (take (n + 1) (set ys n x)) ≡ true
-sound-added ys n x l a b h =
+sound_added ys n x l a b h =
     let count = cell_count (length ys) in
     rw (length-set ys n x, take_more_set ys n x l) (sound_from_all count (take n ys ++ x ∷ []) (All-push (Sound count) (take n ys) x (all_from_sound count (take n ys) h) (a, b)))
 

@@ -24,9 +24,9 @@ last_at (x ∷ y ∷ steps) d h =
     ap (λ (k : ℕ). stops (get_or (x ∷ y ∷ steps) k d)) e ∙ last_at (y ∷ steps) d (λ q. omega arith)
 
 -- At step i: the first fault is this step's, or one of a later step.
-pub fault-here : (count n m : ℕ) (steps : List Step) (i : ℕ) (d : Step) (f : Option Fault) → i < length steps → f ≡ step_fault count n m (get_or steps i d) → is_some f ≡ true → f ≡ steps_fault count n m (drop i steps)
-fault-here count n m steps i d None h e s = zero_one (cc)
-fault-here count n m steps i d (Some x) h e s = sym (ap (steps_fault count n m) (drop_more steps i d h) ∙ ap (λ (o : Option Fault). option_or o (steps_fault count n (suc m) (drop (i + 1) steps))) (sym e))
+pub fault_here : (count n m : ℕ) (steps : List Step) (i : ℕ) (d : Step) (f : Option Fault) → i < length steps → f ≡ step_fault count n m (get_or steps i d) → is_some f ≡ true → f ≡ steps_fault count n m (drop i steps)
+fault_here count n m steps i d None h e s = zero_one (cc)
+fault_here count n m steps i d (Some x) h e s = sym (ap (steps_fault count n m) (drop_more steps i d h) ∙ ap (λ (o : Option Fault). option_or o (steps_fault count n (suc m) (drop (i + 1) steps))) (sym e))
 
 pub fault_later : (count n m : ℕ) (steps : List Step) (i : ℕ) (d : Step) (f : Option Fault) → i < length steps → f ≡ step_fault count n m (get_or steps i d) → is_some f ≡ false → steps_fault count n (m + 1) (drop (i + 1) steps) ≡ steps_fault count n m (drop i steps)
 fault_later count n m steps i d None h e s =
@@ -34,8 +34,8 @@ fault_later count n m steps i d None h e s =
     ap (λ (x : ℕ). steps_fault count n x (drop (i + 1) steps)) k ∙ sym (ap (steps_fault count n m) (drop_more steps i d h) ∙ ap (λ (o : Option Fault). option_or o (steps_fault count n (suc m) (drop (i + 1) steps))) (sym e))
 fault_later count n m steps i d (Some x) h e s = zero_one (cc)
 
-pub fault-none : (count n m : ℕ) (steps : List Step) (i : ℕ) → length steps ≤ i → None ≡ steps_fault count n m (drop i steps)
-fault-none count n m steps i h = sym (ap (steps_fault count n m) (drop_all i steps h))
+pub fault_none : (count n m : ℕ) (steps : List Step) (i : ℕ) → length steps ≤ i → None ≡ steps_fault count n m (drop i steps)
+fault_none count n m steps i h = sym (ap (steps_fault count n m) (drop_all i steps h))
 
 -- What passes over so many cells passes over more.
 cell_fine : (count more n field cell : ℕ) → count ≤ more → bad_cell count n field cell ≡ None → bad_cell more n field cell ≡ None
@@ -43,12 +43,12 @@ cell_fine count more n field cell h e =
     let lt = leb-false count cell (not_bad (leb count cell) (fault NoSuchCell n field) e) in
     rw (lt-leb more cell (omega arith))
 
-first-none : {A : Type 0} (x y z : Option A) → option_or x y ≡ None → (y ≡ None → z ≡ None) → option_or x z ≡ None
-first-none x y z e h = let p = neither x y e in ap (λ o. option_or o z) p.0 ∙ h p.1
+first_none : {A : Type 0} (x y z : Option A) → option_or x y ≡ None → (y ≡ None → z ≡ None) → option_or x z ≡ None
+first_none x y z e h = let p = neither x y e in ap (λ o. option_or o z) p.0 ∙ h p.1
 
 step_fine : (count more len n : ℕ) (st : Step) → count ≤ more → step_fault count len n st ≡ None → step_fault more len n st ≡ None
-step_fine count more len n (Read r c) h e = first-none (bad_register n 1 r) _ _ e (cell_fine count more n 2 c h)
-step_fine count more len n (Write c r) h e = first-none (bad_register n 2 r) _ _ e (cell_fine count more n 1 c h)
+step_fine count more len n (Read r c) h e = first_none (bad_register n 1 r) _ _ e (cell_fine count more n 2 c h)
+step_fine count more len n (Write c r) h e = first_none (bad_register n 2 r) _ _ e (cell_fine count more n 1 c h)
 step_fine count more len n (Load r v) h e = e
 step_fine count more len n (Add r q) h e = e
 step_fine count more len n (Subtract r q) h e = e

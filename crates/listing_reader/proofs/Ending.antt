@@ -11,17 +11,17 @@ use Rattle.listing_reader.specs.Ends.{further, end_of}
 abbrev pub past : ℕ → Option ℕ → Option ℕ
 past n o = option_map (λ k. n + k) o
 
-past-none : (o : Option ℕ) → past 0 o ≡ o
-past-none None = refl
-past-none (Some k) = let e : 0 + k ≡ k = omega arith in ap Some e
+past_none : (o : Option ℕ) → past 0 o ≡ o
+past_none None = refl
+past_none (Some k) = let e : 0 + k ≡ k = omega arith in ap Some e
 
-past-further : (i : ℕ) (o : Option ℕ) → past i (further o) ≡ past (i + 1) o
-past-further i None = refl
-past-further i (Some k) = let e : i + suc k ≡ i + 1 + k = omega arith in ap Some e
+past_further : (i : ℕ) (o : Option ℕ) → past i (further o) ≡ past (i + 1) o
+past_further i None = refl
+past_further i (Some k) = let e : i + suc k ≡ i + 1 + k = omega arith in ap Some e
 
 module _ (bytes : List ℕ) (i : ℕ) where
   pub end-begins : past 0 (end_of (drop 0 bytes)) ≡ end_of bytes
-  end-begins = past-none (end_of bytes)
+  end-begins = past_none (end_of bytes)
 
   pub end-here : i < length bytes → get_or bytes i 0 ≡ 10 → past i (end_of (drop i bytes)) ≡ Some i
   end-here l e =
@@ -32,19 +32,19 @@ module _ (bytes : List ℕ) (i : ℕ) where
   pub end_later : i < length bytes → (get_or bytes i 0 ≡ 10 → ⊥) → past i (end_of (drop i bytes)) ≡ past (i + 1) (end_of (drop (i + 1) bytes))
   end_later l ne =
       let s : end_of (drop i bytes) ≡ cond (eqb (get_or bytes i 0) 10) (Some 0) (further (end_of (drop (i + 1) bytes))) = at_drop_more end_of bytes i 0 l in
-      ap (past i) (s ∙ ap (λ t. cond t (Some 0) (further (end_of (drop (i + 1) bytes)))) (ne_eqb (get_or bytes i 0) 10 ne)) ∙ past-further i (end_of (drop (i + 1) bytes))
+      ap (past i) (s ∙ ap (λ t. cond t (Some 0) (further (end_of (drop (i + 1) bytes)))) (ne_eqb (get_or bytes i 0) 10 ne)) ∙ past_further i (end_of (drop (i + 1) bytes))
 
   pub end-nowhere : length bytes ≤ i → past i (end_of (drop i bytes)) ≡ None
   end-nowhere l = let s : end_of (drop i bytes) ≡ None = at_drop_all end_of bytes i l in ap (past i) s
 
 -- The first line and the rest, or one line without an end.
-further-some : (o : Option ℕ) (i : ℕ) → further o ≡ Some i → (k : ℕ) × (o ≡ Some k) × (i ≡ suc k)
-further-some None i e = zero_one (cc)
-further-some (Some k) i e = (k, refl, cc)
+further_some : (o : Option ℕ) (i : ℕ) → further o ≡ Some i → (k : ℕ) × (o ≡ Some k) × (i ≡ suc k)
+further_some None i e = zero_one (cc)
+further_some (Some k) i e = (k, refl, cc)
 
-further-none : (o : Option ℕ) → further o ≡ None → o ≡ None
-further-none None e = refl
-further-none (Some k) e = zero_one (cc)
+further_none : (o : Option ℕ) → further o ≡ None → o ≡ None
+further_none None e = refl
+further_none (Some k) e = zero_one (cc)
 
 abbrev FirstLine : List ℕ → ℕ → Type 0
 FirstLine bytes i = (lines_of bytes ≡ Closed (take i bytes) ∷ lines_of (drop (suc i) bytes)) × (i < length bytes)
@@ -57,7 +57,7 @@ first-after b bytes i ih e true h =
     (subst (λ (n : ℕ). lines_of (b ∷ bytes) ≡ Closed (take n (b ∷ bytes)) ∷ lines_of (drop (suc n) (b ∷ bytes))) z split, omega arith)
 first-after b bytes i ih e false h =
     let s : further (end_of bytes) ≡ Some i = ap (λ t. cond t (Some 0) (further (end_of bytes))) (sym h) ∙ e in
-    let k = further-some (end_of bytes) i s in
+    let k = further_some (end_of bytes) i s in
     let rest = ih k.0 k.1 in
     let split : lines_of (b ∷ bytes) ≡ lengthened b (lines_of bytes) = ap (λ t. cond t (Closed [] ∷ lines_of bytes) (lengthened b (lines_of bytes))) h in
     (subst (λ (n : ℕ). lines_of (b ∷ bytes) ≡ Closed (take n (b ∷ bytes)) ∷ lines_of (drop (suc n) (b ∷ bytes))) (sym k.2) (split ∙ ap (lengthened b) rest.0), omega (arith, rest.1, k.2))
@@ -68,7 +68,7 @@ first_line (b ∷ bytes) i e = first-after b bytes i (λ k h. first_line bytes k
 
 no_end_at : (b : ℕ) (bytes : List ℕ) → end_of (b ∷ bytes) ≡ None → (t : Bool) → eqb b 10 ≡ t → (eqb b 10 ≡ false) × (end_of bytes ≡ None)
 no_end_at b bytes e true h = let s : ◌≡◌ {A = Option ℕ} (Some 0) None = ap (λ t. cond t (Some 0) (further (end_of bytes))) (sym h) ∙ e in zero_one (cc)
-no_end_at b bytes e false h = (h, further-none (end_of bytes) (ap (λ t. cond t (Some 0) (further (end_of bytes))) (sym h) ∙ e))
+no_end_at b bytes e false h = (h, further_none (end_of bytes) (ap (λ t. cond t (Some 0) (further (end_of bytes))) (sym h) ∙ e))
 
 pub only_line : (bytes : List ℕ) → end_of bytes ≡ None → 0 < length bytes → lines_of bytes ≡ Unclosed bytes ∷ []
 only_line [] e l = absurd (omega arith)

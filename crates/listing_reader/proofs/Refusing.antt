@@ -22,17 +22,17 @@ if_at : (n : ℕ) (bad : Bool) (g f : Fault) → At n g → fault_if bad g ≡ S
 if_at n true g f h e = let same : g ≡ f = cc in subst (At n) same h
 if_at n false g f h e = zero_one (cc)
 
-at-either : (n : ℕ) (x y : Option Fault) (f : Fault) → (x ≡ Some f → At n f) → (y ≡ Some f → At n f) → option_or x y ≡ Some f → At n f
-at-either n x y f hx hy e = elim (either x y f e) [ inl h ↦ hx h | inr h ↦ hy h.1 ]
+at_either : (n : ℕ) (x y : Option Fault) (f : Fault) → (x ≡ Some f → At n f) → (y ≡ Some f → At n f) → option_or x y ≡ Some f → At n f
+at_either n x y f hx hy e = elim (either x y f e) [ inl h ↦ hx h | inr h ↦ hy h.1 ]
 
 step-at : (count steps n : ℕ) (s : Step) (f : Fault) → step_fault count steps n s ≡ Some f → At n f
-step-at count steps n (Read r cell) f e = at-either n (bad_register n 1 r) (bad_cell count n 2 cell) f (if_at n _ _ f (refl, omega arith)) (if_at n _ _ f (refl, omega arith)) e
-step-at count steps n (Write cell r) f e = at-either n (bad_register n 2 r) (bad_cell count n 1 cell) f (if_at n _ _ f (refl, omega arith)) (if_at n _ _ f (refl, omega arith)) e
+step-at count steps n (Read r cell) f e = at_either n (bad_register n 1 r) (bad_cell count n 2 cell) f (if_at n _ _ f (refl, omega arith)) (if_at n _ _ f (refl, omega arith)) e
+step-at count steps n (Write cell r) f e = at_either n (bad_register n 2 r) (bad_cell count n 1 cell) f (if_at n _ _ f (refl, omega arith)) (if_at n _ _ f (refl, omega arith)) e
 step-at count steps n (Load r number) f e = if_at n _ _ f (refl, omega arith) e
-step-at count steps n (Add r q) f e = at-either n (bad_register n 1 r) (bad_register n 2 q) f (if_at n _ _ f (refl, omega arith)) (if_at n _ _ f (refl, omega arith)) e
-step-at count steps n (Subtract r q) f e = at-either n (bad_register n 1 r) (bad_register n 2 q) f (if_at n _ _ f (refl, omega arith)) (if_at n _ _ f (refl, omega arith)) e
+step-at count steps n (Add r q) f e = at_either n (bad_register n 1 r) (bad_register n 2 q) f (if_at n _ _ f (refl, omega arith)) (if_at n _ _ f (refl, omega arith)) e
+step-at count steps n (Subtract r q) f e = at_either n (bad_register n 1 r) (bad_register n 2 q) f (if_at n _ _ f (refl, omega arith)) (if_at n _ _ f (refl, omega arith)) e
 step-at count steps n (JumpIfLess r q target) f e =
-    at-either n (bad_register n 1 r) _ f (if_at n _ _ f (refl, omega arith)) (at-either n (bad_register n 2 q) (bad_jump steps n 3 target) f (if_at n _ _ f (refl, omega arith)) (if_at n _ _ f (refl, omega arith))) e
+    at_either n (bad_register n 1 r) _ f (if_at n _ _ f (refl, omega arith)) (at_either n (bad_register n 2 q) (bad_jump steps n 3 target) f (if_at n _ _ f (refl, omega arith)) (if_at n _ _ f (refl, omega arith))) e
 step-at count steps n Wait f e = zero_one (cc)
 step-at count steps n End f e = zero_one (cc)
 

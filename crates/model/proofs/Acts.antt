@@ -18,8 +18,8 @@ use Rattle.model.specs.declared.Party.TheVariants.{Job, Correction}
 use Rattle.model.specs.declared.Rule.{Rule}
 use Rattle.model.specs.declared.Rule.TheVariants.{S1, S2, S3, R1, R2, R3, W1, W2, P, Rt, Rb, E, V1, V2, V3, V4, C1, C2, C3}
 use Rattle.model.proofs.Basics.{by_bool, zero_one, at-put-same, at-put-other, each-put, sum-put, member-left, member-last, member-push}
-use Rattle.model.proofs.LogLaws.{Agrees, agrees_put, unchanged-put, unchanged-remove, kept_remove, set_all-first, shorter, Sized, sized_none, sized_more, sized_put, sized_remove, Means, note, means_none, means_put}
-use Rattle.model.proofs.Follow.{Follows, follows-first, follow, comes_to, step-at, goes_on}
+use Rattle.model.proofs.LogLaws.{Agrees, agrees_put, unchanged-put, unchanged-remove, kept_remove, set_all_first, shorter, Sized, sized_none, sized_more, sized_put, sized_remove, Means, note, means_none, means_put}
+use Rattle.model.proofs.Follow.{Follows, follows_first, follow, comes_to, step-at, goes_on}
 use Rattle.model.proofs.Cases.{AtStep, Computes, Facts, turn-cases}
 use Rattle.model.proofs.Views.{stir, tick, View, advance, same_self, AllBy, readings-other, requested-other, started-other}
 use Rattle.model.proofs.Invariant.{Scene, scene, player, finished, Fresh, Stands, room, JobInv, Answers, Closed, Replays, Inv, Fair, load, job_load, spent, Kept, unchanged, stands_on, stands_unmarked, replays_on, replays-push}
@@ -191,7 +191,7 @@ module _ (programs : ℕ → List Step) (C₀ : List ℕ) where
         (loaded-25 Start h refl) refl
         (λ j. ((λ t. let q : i ≡ j = sym (eqb-true j i t) in subst (λ n. v.stirred n ≡ true) q (stood Start h)), tt))
         (let t : cond (same (Job i) (Job i)) [] (v.readings (Job i)) ≡ [] = ap (λ x. cond x [] (v.readings (Job i))) (same_self (Job i)) in
-        let F : Follows b.program b.reads beginning = subst (λ rd. Follows b.program rd beginning) (sym r) (follows-first b.program own.well_formed.some_step) in (
+        let F : Follows b.program b.reads beginning = subst (λ rd. Follows b.program rd beginning) (sym r) (follows_first b.program own.well_formed.some_step) in (
           (
             [],
             subst (λ l. Means l []) (sym w) means_none,
@@ -413,7 +413,7 @@ module _ (programs : ℕ → List Step) (C₀ : List ℕ) where
         act b' es refl (refl, tt) own.reads (sized_remove (room b.stage) c b.writes own.writes) own.starts (omega (arith, l, l', shorter b.writes c f)) (λ j. (tt, tt))
         (record { cells = D; right = s.right; base = I.base; order = s.order }) s.takings (counted s.settings)
         (subst (λ z. Stands z (record { cells = D; right = s.right; base = I.base; order = s.order }) i b' (v.readings (Job i)) ((advance v es).stirred i)) (sym h)
-        (r, x.1 ∙ ap (finished (v.readings (Job i))) (sym (set_all-first b.writes s.cells c f))))
+        (r, x.1 ∙ ap (finished (v.readings (Job i))) (sym (set_all_first b.writes s.cells c f))))
         (λ j y ne k st'.
         stands_on y.stage (scene s I.base) _ j y (v.readings (Job j)) (v.stirred j) ((advance v es).stirred j)
         (λ m. let q : y.marked ≡ false = clear j y ne k in zero_one (cc))

@@ -13,7 +13,7 @@ use Rattle.model.specs.declared.Party.{Party}
 use Rattle.model.specs.declared.Party.TheVariants.{Job, Correction}
 use Rattle.model.proofs.Basics.{by_bool, by_cond, zero_one, at-put-same, at-put-other, each-put, at-append-old, at-append-cases, at_length, at_map, at-map-to, member-left, member-push, sum, sum-put, sum-push, length-put}
 use Rattle.model.proofs.LogLaws.{Agrees, agrees_put, unchanged_agrees, Sized, sized_none, sized_put, sized_put_old, note, means_none, means_put}
-use Rattle.model.proofs.Views.{stir, tick, ticked, View, advance, same_self, AllBy, readings-other, requested-other, started-other, filing, filing-by, filing-readings, filing_requested, filing-stirs, filing-takes, filing-sets}
+use Rattle.model.proofs.Views.{stir, tick, ticked, View, advance, same_self, AllBy, readings-other, requested-other, started-other, filing, filing_by, filing_readings, filing_requested, filing_stirs, filing_takes, filing_sets}
 use Rattle.model.proofs.Invariant.{Scene, scene, finished, Stands, JobInv, Answers, CorrectionInv, Closed, Inv, Fair, job_load, correction_load, corrections_load, spent, Kept, unchanged, stands_on, stands_unmarked, replays_on, replays-push}
 use Rattle.model.proofs.Acts.{wraps, replays-still}
 
@@ -242,15 +242,15 @@ module _ (programs : ℕ → List Step) (C₀ : List ℕ) where
         jobs = λ j z e. job-after j z (at_map unmark s.jobs j z e);
         corrections = each-put (CorrectionInv w) s.corrections k f f' g
             (record { reads = own.reads; writes = own.writes; answers = λ o. zero_one (cc) })
-            (λ n z ne e. answers_on v w n z (filing-readings k (Correction n) (v.readings (Correction n)) f.writes) (filing_requested k n (v.scripts n) f.writes) (I.corrections n z e));
+            (λ n z ne e. answers_on v w n z (filing_readings k (Correction n) (v.readings (Correction n)) f.writes) (filing_requested k n (v.scripts n) f.writes) (I.corrections n z e));
         holder = λ h e. zero_one (cc);
         rest = λ e. refl;
         replays = replays_on programs C₀ v w (s.order ++ Correction k ∷ []) D
-            (λ p m. filing-readings k p (v.readings p) f.writes) (λ n m. filing_requested k n (v.scripts n) f.writes)
+            (λ p m. filing_readings k p (v.readings p) f.writes) (λ n m. filing_requested k n (v.scripts n) f.writes)
             (replays-push programs C₀ v s.order (Correction k) I.base D I.replays played);
         closed = λ p m. closed_after p (member-push p (Correction k) s.order m);
-        takings = wraps v.takings s.takings I.takings ∙ ap (λ a. a % 2 ^ 32) (sym (filing-takes k (suc v.takings) f.writes));
-        settings = sets_more ∙ ap (λ a. a % 2 ^ 32) (sym (filing-sets k v.settings f.writes));
+        takings = wraps v.takings s.takings I.takings ∙ ap (λ a. a % 2 ^ 32) (sym (filing_takes k (suc v.takings) f.writes));
+        settings = sets_more ∙ ap (λ a. a % 2 ^ 32) (sym (filing_sets k v.settings f.writes));
       };
       fair = λ j. (tt, filing-fair j true f.writes);
       spends =
@@ -299,9 +299,9 @@ module _ (programs : ℕ → List Step) (C₀ : List ℕ) where
               program = x.program;
               reads = x.reads;
               writes = x.writes;
-              starts = x.starts ∙ ap (λ a. a % 2 ^ 32) (sym (started-other (Correction k) (filing k f.writes) (filing-by k f.writes) j refl (v.starts j)));
-              stands = subst (λ t. Stands p.0.stage g' j (unmark p.0) t (w.stirred j)) (sym (filing-readings k (Job j) (v.readings (Job j)) f.writes))
-                  (subst (λ t. Stands p.0.stage g' j (unmark p.0) (v.readings (Job j)) t) (sym (filing-stirs k j f.writes)) (stands_after j p.0 p.1));
+              starts = x.starts ∙ ap (λ a. a % 2 ^ 32) (sym (started-other (Correction k) (filing k f.writes) (filing_by k f.writes) j refl (v.starts j)));
+              stands = subst (λ t. Stands p.0.stage g' j (unmark p.0) t (w.stirred j)) (sym (filing_readings k (Job j) (v.readings (Job j)) f.writes))
+                  (subst (λ t. Stands p.0.stage g' j (unmark p.0) (v.readings (Job j)) t) (sym (filing_stirs k j f.writes)) (stands_after j p.0 p.1));
             })
 
         closed-old : (p : Party) → Closed s.jobs s.corrections p → Closed (map unmark s.jobs) (put_at s.corrections k f') p
@@ -322,9 +322,9 @@ module _ (programs : ℕ → List Step) (C₀ : List ℕ) where
         filing-spends : spent (TookRight (Correction k) ∷ filing k f.writes) ≡ suc (length f.writes)
         filing-spends =
             let a = ticked is_taking 0 (filing k f.writes) in
-            let b = filing-takes k 0 f.writes in
+            let b = filing_takes k 0 f.writes in
             let c = ticked is_setting 0 (filing k f.writes) in
-            let e = filing-sets k 0 f.writes in
+            let e = filing_sets k 0 f.writes in
             let x : count_of is_taking (filing k f.writes) ≡ 0 = omega arith in
             let y : count_of is_setting (filing k f.writes) ≡ length f.writes = omega arith in
             let z : suc (count_of is_taking (filing k f.writes)) + count_of is_setting (filing k f.writes) ≡ suc (length f.writes) = omega arith in

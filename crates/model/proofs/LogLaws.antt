@@ -11,9 +11,9 @@ use Rattle.model.proofs.Basics.{by_bool, by_cond, zero_one}
 abbrev pub Agrees : Log → List ℕ → Type 0
 Agrees l C = (a v : ℕ) → find l a ≡ Some v → cell_of C a ≡ v
 
-find-put-same : (l : Log) (a v : ℕ) → find (put l a v) a ≡ Some v
-find-put-same [] a v = grind arith
-find-put-same (p ∷ l) a v = let ih = find-put-same l a v in grind arith
+find-put_same : (l : Log) (a v : ℕ) → find (put l a v) a ≡ Some v
+find-put_same [] a v = grind arith
+find-put_same (p ∷ l) a v = let ih = find-put_same l a v in grind arith
 
 find-put_other : (l : Log) (a b v : ℕ) → (a ≡ b → ⊥) → find (put l a v) b ≡ find l b
 find-put_other [] a b v ne = grind arith
@@ -29,7 +29,7 @@ agrees_put l C c v h g = (
       by_bool (eqb c a)
       (λ t. let q : c ≡ a = eqb-true c a t in let z : ◌≡◌ {A = ℕ} (cell_of C a) w = cc in z)
       (λ t. g a w (find-put_other l c a v (eqb-false c a t) ∙ e)),
-  g c v (find-put-same l c v),
+  g c v (find-put_same l c v),
 )
 
 -- Where no entry has changed.
@@ -55,9 +55,9 @@ pub none_any : (l : Log) → lowest any l ≡ None → l ≡ []
 none_any [] h = refl
 none_any (p ∷ l) h = cc
 
-pub none-either : (C : List ℕ) (l : Log) → lowest (current C) l ≡ None → lowest (changed C) l ≡ None → l ≡ []
-none-either C [] g h = refl
-none-either C (p ∷ l) g h = grind arith
+pub none_either : (C : List ℕ) (l : Log) → lowest (current C) l ≡ None → lowest (changed C) l ≡ None → l ≡ []
+none_either C [] g h = refl
+none_either C (p ∷ l) g h = grind arith
 
 -- Ascending logs.
 pub above_less : (a b : ℕ) (l : Log) → a ≤ b → Above b l → Above a l
@@ -72,9 +72,9 @@ above_lowest a c t (p ∷ l) h e =
     (λ q. above_lowest a c t l h.1 (sym (ap (λ z. cond z (Some p.cell) (lowest t l)) q) ∙ e))
 
 -- The entry at the lowest cell that passes a test is that cell's.
-pub lowest-found : (t : Entry → Bool) (l : Log) (c : ℕ) → Ascending l → lowest t l ≡ Some c → (v : ℕ) × (find l c ≡ Some v) × (t (entry c v) ≡ true)
-lowest-found t [] c h e = zero_one (cc)
-lowest-found t (p ∷ l) c h e =
+pub lowest_found : (t : Entry → Bool) (l : Log) (c : ℕ) → Ascending l → lowest t l ≡ Some c → (v : ℕ) × (find l c ≡ Some v) × (t (entry c v) ≡ true)
+lowest_found t [] c h e = zero_one (cc)
+lowest_found t (p ∷ l) c h e =
     by_bool (t p)
     (λ q.
     let u : Some p.cell ≡ Some c = sym (ap (λ z. cond z (Some p.cell) (lowest t l)) q) ∙ e in
@@ -82,7 +82,7 @@ lowest-found t (p ∷ l) c h e =
     (p.number, (grind arith), subst (λ z. t (entry z p.number) ≡ true) x q))
     (λ q.
     let u : lowest t l ≡ Some c = sym (ap (λ z. cond z (Some p.cell) (lowest t l)) q) ∙ e in
-    let r = lowest-found t l c h.1 u in
+    let r = lowest_found t l c h.1 u in
     let lt : p.cell < c = above_lowest p.cell c t l h.0 u in
     let f : find l c ≡ Some r.0 = r.1 in
     (r.0, (grind arith), r.2))
@@ -94,7 +94,7 @@ kept_remove C l c h e a v f =
     by_bool (eqb c a)
     (λ t.
     let q : c ≡ a = eqb-true c a t in
-    let r = lowest-found (current C) l c h e in
+    let r = lowest_found (current C) l c h e in
     let x : Some r.0 ≡ Some v = sym r.1 ∙ (ap (find l) q ∙ f) in
     let y : r.0 ≡ v = cc in
     let z : cell_of C c ≡ r.0 = eqb-true (cell_of C c) r.0 r.2 in
@@ -203,9 +203,9 @@ set_all-put c v (p ∷ l) C h =
     sym (set_through c v (p ∷ l) C (q, above_less c p.cell l (omega arith) h.0)))
     (λ f. set_all-put c v l (set C p.cell p.number) h.1))
 
-pub set_all-first : (w : Log) (C : List ℕ) (c : ℕ) → lowest any w ≡ Some c → set_all (remove w c) (set C c (value_in (find w c))) ≡ set_all w C
-set_all-first [] C c h = zero_one (cc)
-set_all-first (p ∷ l) C c h = let q : p.cell ≡ c = cc in grind arith
+pub set_all_first : (w : Log) (C : List ℕ) (c : ℕ) → lowest any w ≡ Some c → set_all (remove w c) (set C c (value_in (find w c))) ≡ set_all w C
+set_all_first [] C c h = zero_one (cc)
+set_all_first (p ∷ l) C c h = let q : p.cell ≡ c = cc in grind arith
 
 -- A write log and the notes of a player that mean the same.
 pub record Means (l : Log) (notes : List Note) : Type 0 where
@@ -222,7 +222,7 @@ pub means_put : (l : Log) (notes : List Note) (c v : ℕ) → Ascending l → Me
 means_put l notes c v h m = record {
   finds = λ C a.
       by_cond (λ (x : ℕ). x ≡ unwrap_or (find (put l c v) a) (cell_of C a)) (eqb c a) v (noted C notes a)
-      (λ t. sym (ap (λ o. unwrap_or o (cell_of C a)) (subst (λ z. find (put l c v) z ≡ Some v) (eqb-true c a t) (find-put-same l c v))))
+      (λ t. sym (ap (λ o. unwrap_or o (cell_of C a)) (subst (λ z. find (put l c v) z ≡ Some v) (eqb-true c a t) (find-put_same l c v))))
       (λ t. m.finds C a ∙ sym (ap (λ o. unwrap_or o (cell_of C a)) (find-put_other l c a v (eqb-false c a t))));
   sets = λ C. ap (λ (X : List ℕ). set X c v) (m.sets C) ∙ sym (set_all-put c v l C h);
 }

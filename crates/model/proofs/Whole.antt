@@ -37,69 +37,69 @@ counts_one j e es h = by_cond (λ (n : ℕ). 0 < n) (by_other j e) _ _ (λ t. om
 counts_later : (j : ℕ) (e : Event) (es : List Event) → 0 < count_of (by_other j) es → 0 < count_of (by_other j) (e ∷ es)
 counts_later j e es h = by_cond (λ (n : ℕ). 0 < n) (by_other j e) _ _ (λ t. omega arith) (λ t. h)
 
-stirred-between : (j : ℕ) (es later : List Event) → Fair j false (es ++ Started (Job j) ∷ later) → 0 < count_of (by_other j) es
-stirred-between j [] later p = let q : false ≡ true = p.0 (same_self (Job j)) in zero_one (cc)
-stirred-between j (Started e ∷ es) later p =
+stirred_between : (j : ℕ) (es later : List Event) → Fair j false (es ++ Started (Job j) ∷ later) → 0 < count_of (by_other j) es
+stirred_between j [] later p = let q : false ≡ true = p.0 (same_self (Job j)) in zero_one (cc)
+stirred_between j (Started e ∷ es) later p =
     by_bool (same (Job j) e)
     (λ t. let q : false ≡ true = p.0 t in zero_one (cc))
-    (λ t. stirred-between j es later (subst (λ z. Fair j (cond z false false) (es ++ Started (Job j) ∷ later)) t p.1))
-stirred-between j (ReadCell e c v ∷ es) later p = stirred-between j es later p.1
-stirred-between j (WroteCell e c v ∷ es) later p = stirred-between j es later p.1
-stirred-between j (TookRight e ∷ es) later p =
+    (λ t. stirred_between j es later (subst (λ z. Fair j (cond z false false) (es ++ Started (Job j) ∷ later)) t p.1))
+stirred_between j (ReadCell e c v ∷ es) later p = stirred_between j es later p.1
+stirred_between j (WroteCell e c v ∷ es) later p = stirred_between j es later p.1
+stirred_between j (TookRight e ∷ es) later p =
     by_bool (same (Job j) e)
-    (λ t. counts_later j (TookRight e) es (stirred-between j es later (subst (λ z. Fair j (cond z false true) (es ++ Started (Job j) ∷ later)) t p.1)))
+    (λ t. counts_later j (TookRight e) es (stirred_between j es later (subst (λ z. Fair j (cond z false true) (es ++ Started (Job j) ∷ later)) t p.1)))
     (λ t. counts_one j (TookRight e) es (ap not t))
-stirred-between j (SetCell e c v ∷ es) later p =
+stirred_between j (SetCell e c v ∷ es) later p =
     by_bool (same (Job j) e)
-    (λ t. counts_later j (SetCell e c v) es (stirred-between j es later (subst (λ z. Fair j (cond z false true) (es ++ Started (Job j) ∷ later)) t p.1)))
+    (λ t. counts_later j (SetCell e c v) es (stirred_between j es later (subst (λ z. Fair j (cond z false true) (es ++ Started (Job j) ∷ later)) t p.1)))
     (λ t. counts_one j (SetCell e c v) es (ap not t))
-stirred-between j (Joined e ∷ es) later p = stirred-between j es later p.1
+stirred_between j (Joined e ∷ es) later p = stirred_between j es later p.1
 
 restarts : (es : List Event) → ((j : ℕ) → Fair j true es) → RestartsHaveACause es
 restarts es h j before between later e =
     let a : Fair j (foldl (stir j) true before) (Started (Job j) ∷ (between ++ Started (Job j) ∷ later)) =
     fair-drop j true before (Started (Job j) ∷ (between ++ Started (Job j) ∷ later)) (subst (Fair j true) e (h j)) in
-    stirred-between j between later (subst (λ z. Fair j (cond z false (foldl (stir j) true before)) (between ++ Started (Job j) ∷ later)) (same_self (Job j)) a.1)
+    stirred_between j between later (subst (λ z. Fair j (cond z false (foldl (stir j) true before)) (between ++ Started (Job j) ∷ later)) (same_self (Job j)) a.1)
 
 -- Starts are at most one more than takings and settings.
 abbrev owed : Bool → ℕ
 owed true = 0
 owed false = 1
 
-starts-bound : (j : ℕ) (es : List Event) (acc : Bool) → Fair j acc es → count_of (is_start j) es + owed acc ≤ 1 + spent es
-starts-bound j [] true p = omega arith
-starts-bound j [] false p = omega arith
-starts-bound j (Started e ∷ es) acc p =
+starts_bound : (j : ℕ) (es : List Event) (acc : Bool) → Fair j acc es → count_of (is_start j) es + owed acc ≤ 1 + spent es
+starts_bound j [] true p = omega arith
+starts_bound j [] false p = omega arith
+starts_bound j (Started e ∷ es) acc p =
     by_bool (same (Job j) e)
     (λ q.
-    let ih = starts-bound j es false (subst (λ x. Fair j (cond x false acc) es) q p.1) in
+    let ih = starts_bound j es false (subst (λ x. Fair j (cond x false acc) es) q p.1) in
     let z : owed acc ≡ 0 = ap owed (p.0 q) in
     let y : suc (count_of (is_start j) es) + owed acc ≤ 1 + spent es = omega arith in
     subst (λ x. cond x (suc (count_of (is_start j) es)) (count_of (is_start j) es) + owed acc ≤ 1 + spent es) (sym q) y)
     (λ q.
-    let ih = starts-bound j es acc (subst (λ x. Fair j (cond x false acc) es) q p.1) in
+    let ih = starts_bound j es acc (subst (λ x. Fair j (cond x false acc) es) q p.1) in
     subst (λ x. cond x (suc (count_of (is_start j) es)) (count_of (is_start j) es) + owed acc ≤ 1 + spent es) (sym q) ih)
-starts-bound j (ReadCell e c v ∷ es) acc p = starts-bound j es acc p.1
-starts-bound j (WroteCell e c v ∷ es) acc p = starts-bound j es acc p.1
-starts-bound j (TookRight e ∷ es) acc p =
+starts_bound j (ReadCell e c v ∷ es) acc p = starts_bound j es acc p.1
+starts_bound j (WroteCell e c v ∷ es) acc p = starts_bound j es acc p.1
+starts_bound j (TookRight e ∷ es) acc p =
     let n : ℕ = count_of (is_start j) es in
-    let y : n + owed acc ≤ 1 + (suc (count_of is_taking es) + count_of is_setting es) = omega (arith, starts-bound j es (cond (same (Job j) e) acc true) p.1, owing (same (Job j) e) acc) in y
+    let y : n + owed acc ≤ 1 + (suc (count_of is_taking es) + count_of is_setting es) = omega (arith, starts_bound j es (cond (same (Job j) e) acc true) p.1, owing (same (Job j) e) acc) in y
   where
     owing : (x acc : Bool) → owed acc ≤ suc (owed (cond x acc true))
     owing true true = omega arith
     owing true false = omega arith
     owing false true = omega arith
     owing false false = omega arith
-starts-bound j (SetCell e c v ∷ es) acc p =
+starts_bound j (SetCell e c v ∷ es) acc p =
     let n : ℕ = count_of (is_start j) es in
-    let y : n + owed acc ≤ 1 + (count_of is_taking es + suc (count_of is_setting es)) = omega (arith, starts-bound j es (cond (same (Job j) e) acc true) p.1, owing (same (Job j) e) acc) in y
+    let y : n + owed acc ≤ 1 + (count_of is_taking es + suc (count_of is_setting es)) = omega (arith, starts_bound j es (cond (same (Job j) e) acc true) p.1, owing (same (Job j) e) acc) in y
   where
     owing : (x acc : Bool) → owed acc ≤ suc (owed (cond x acc true))
     owing true true = omega arith
     owing true false = omega arith
     owing false true = omega arith
     owing false false = omega arith
-starts-bound j (Joined e ∷ es) acc p = starts-bound j es acc p.1
+starts_bound j (Joined e ∷ es) acc p = starts_bound j es acc p.1
 
 module _ (programs : ℕ → List Step) (C₀ : List ℕ) where
   then-on : (v : View) (s t u : State) (xs ys : List Event) → Kept programs C₀ v s t xs → Kept programs C₀ (advance v xs) t u ys → Kept programs C₀ v s u (xs ++ ys)
@@ -246,7 +246,7 @@ module _ (i : Intake) (ok : Admissible i) where
       let es : List Event = events_of (sealed i) calls in
       let s : State = after (sealed i) calls in
       let few : spent es ≤ 600 = omega (arith, k.spends, remaining-600) in
-      let bound : (j : ℕ) → count_of (is_start j) es ≤ 1 + spent es = λ j. omega (arith, starts-bound j es true (k.fair j)) in
+      let bound : (j : ℕ) → count_of (is_start j) es ≤ 1 + spent es = λ j. omega (arith, starts_bound j es true (k.fair j)) in
       let t : s.takings ≡ count_of is_taking es = exact s.takings (count_of is_taking es) (k.inv.takings ∙ ap (λ n. n % 2 ^ 32) (ticked is_taking 0 es ∙ from-0 (count_of is_taking es))) (omega arith) in
       let n : s.settings ≡ count_of is_setting es = exact s.settings (count_of is_setting es) (k.inv.settings ∙ ap (λ n. n % 2 ^ 32) (ticked is_setting 0 es ∙ from-0 (count_of is_setting es))) (omega arith) in
       let st : (j : ℕ) (b : JobState) → at s.jobs j ≡ Some b → b.starts ≡ count_of (is_start j) es = λ j b e.

@@ -105,7 +105,7 @@ read_gives s k f cell number reads =
     record { next = with_corrections s (put_at s.corrections k (correction true reads f.writes)); answer = Ok number; events = ReadCell (Correction k) cell number ∷ [] }
 
 abbrev pub read_logged : State → ℕ → CorrectionState → ℕ → Option ℕ → Option ℕ → Outcome (Result ℕ Refusal)
-read_logged s k f cell (Some number) inReads = read_gives s k f cell number f.reads
+read_logged s k f cell (Some number) in_reads = read_gives s k f cell number f.reads
 read_logged s k f cell None (Some number) = read_gives s k f cell number f.reads
 read_logged s k f cell None None =
     cond (nat_lt (length f.reads) 24) (read_gives s k f cell (cell_of s.cells cell) (put f.reads cell (cell_of s.cells cell))) (refuse s LogFull)

@@ -17,5 +17,5 @@ digits_between (suc k) n low high fits =
     ∙ length_push (decimal (n / 10)) _
     ∙ omega (arith, digits_between k (n / 10) (omega arith) (omega arith) (omega arith))
 
-pub blanks-between : (k n : ℕ) → 10 ^ k ≤ n → n < 10 ^ suc k → n < 2 ^ 64 → blanks n ≡ replicate (11 - suc k) 32
-blanks-between k n low high fits = ap (λ (d : ℕ). replicate {A = ℕ} (11 - d) 32) (digits_between k n low high fits)
+pub blanks_between : (k n : ℕ) → 10 ^ k ≤ n → n < 10 ^ suc k → n < 2 ^ 64 → blanks n ≡ replicate (11 - suc k) 32
+blanks_between k n low high fits = ap (λ (d : ℕ). replicate {A = ℕ} (11 - d) 32) (digits_between k n low high fits)

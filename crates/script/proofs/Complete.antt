@@ -85,38 +85,38 @@ module _ (count : ℕ) where
   module _ (presets : List Preset) where
     -- Steps of a job.
     module _ (jobs : List (List Step)) (job_line : ℕ) where
-      abbrev inJob : List Step → Progress
-      inJob steps = progress InJob count presets jobs [] job_line steps
+      abbrev in_job : List Step → Progress
+      in_job steps = progress InJob count presets jobs [] job_line steps
 
-      step-read : (steps : List Step) (x : Step) (line : ℕ) (rest : List RawLine) → Fits (step_item x) → read_lines (inJob steps) line (raw (step_item x) ∷ rest) ≡ read_lines (inJob (steps ++ x ∷ [])) (suc line) rest
-      step-read steps (step.Read r cell) line rest fit = line-then (inJob steps) line Read (r ∷ cell ∷ []) rest refl refl (refl, (refl, tt)) fit
-      step-read steps (step.Write cell r) line rest fit = line-then (inJob steps) line Write (cell ∷ r ∷ []) rest refl refl (refl, (refl, tt)) fit
-      step-read steps (step.Load r number) line rest fit = line-then (inJob steps) line Load (r ∷ number ∷ []) rest refl refl (refl, (refl, tt)) fit
-      step-read steps (step.Add r q) line rest fit = line-then (inJob steps) line Add (r ∷ q ∷ []) rest refl refl (refl, (refl, tt)) fit
-      step-read steps (step.Subtract r q) line rest fit = line-then (inJob steps) line Subtract (r ∷ q ∷ []) rest refl refl (refl, (refl, tt)) fit
-      step-read steps (step.JumpIfLess r q target) line rest fit = line-then (inJob steps) line JumpIfLess (r ∷ q ∷ target ∷ []) rest refl refl (refl, (refl, (refl, tt))) fit
-      step-read steps step.Wait line rest fit = line-then (inJob steps) line Wait [] rest refl refl tt fit
-      step-read steps step.End line rest fit = line-then (inJob steps) line End [] rest refl refl tt fit
+      step-read : (steps : List Step) (x : Step) (line : ℕ) (rest : List RawLine) → Fits (step_item x) → read_lines (in_job steps) line (raw (step_item x) ∷ rest) ≡ read_lines (in_job (steps ++ x ∷ [])) (suc line) rest
+      step-read steps (step.Read r cell) line rest fit = line-then (in_job steps) line Read (r ∷ cell ∷ []) rest refl refl (refl, (refl, tt)) fit
+      step-read steps (step.Write cell r) line rest fit = line-then (in_job steps) line Write (cell ∷ r ∷ []) rest refl refl (refl, (refl, tt)) fit
+      step-read steps (step.Load r number) line rest fit = line-then (in_job steps) line Load (r ∷ number ∷ []) rest refl refl (refl, (refl, tt)) fit
+      step-read steps (step.Add r q) line rest fit = line-then (in_job steps) line Add (r ∷ q ∷ []) rest refl refl (refl, (refl, tt)) fit
+      step-read steps (step.Subtract r q) line rest fit = line-then (in_job steps) line Subtract (r ∷ q ∷ []) rest refl refl (refl, (refl, tt)) fit
+      step-read steps (step.JumpIfLess r q target) line rest fit = line-then (in_job steps) line JumpIfLess (r ∷ q ∷ target ∷ []) rest refl refl (refl, (refl, (refl, tt))) fit
+      step-read steps step.Wait line rest fit = line-then (in_job steps) line Wait [] rest refl refl tt fit
+      step-read steps step.End line rest fit = line-then (in_job steps) line End [] rest refl refl tt fit
 
       steps-read : (steps more : List Step) (line : ℕ) (rest : List RawLine) → All Fits (map step_item more) →
-          read_lines (inJob steps) line (map raw (map step_item more) ++ rest) ≡ read_lines (inJob (steps ++ more)) (line + length more) rest
+          read_lines (in_job steps) line (map raw (map step_item more) ++ rest) ≡ read_lines (in_job (steps ++ more)) (line + length more) rest
       steps-read steps [] line rest fit =
           let z : line ≡ line + 0 = omega arith in
-          ap (λ ss. read_lines (inJob ss) line rest) (sym (append-nil steps)) ∙ ap (λ n. read_lines (inJob (steps ++ [])) n rest) z
+          ap (λ ss. read_lines (in_job ss) line rest) (sym (append-nil steps)) ∙ ap (λ n. read_lines (in_job (steps ++ [])) n rest) z
       steps-read steps (x ∷ more) line rest fit =
           let z : suc line + length more ≡ line + suc (length more) = omega arith in
           step-read steps x line (map raw (map step_item more) ++ rest) fit.0
           ∙ (steps-read (steps ++ x ∷ []) more (suc line) rest fit.1
-          ∙ (ap (λ ss. read_lines (inJob ss) (suc line + length more) rest) (append_assoc steps (x ∷ []) more)
-          ∙ ap (λ n. read_lines (inJob (steps ++ x ∷ more)) n rest) z))
+          ∙ (ap (λ ss. read_lines (in_job ss) (suc line + length more) rest) (append_assoc steps (x ∷ []) more)
+          ∙ ap (λ n. read_lines (in_job (steps ++ x ∷ more)) n rest) z))
 
       -- The job is admitted where no step follows.
       admitted-then : (steps : List Step) (line : ℕ) (rest : List RawLine) → admission_fault (length jobs) count steps ≡ None → step_follows rest ≡ false →
-          read_lines (inJob steps) line rest ≡ read_lines (progress AfterJob count presets (jobs ++ steps ∷ []) [] job_line steps) line rest
-      admitted-then steps line [] e f = ap (λ o. next (admit_unless o (inJob steps)) (λ q. finished q q.section)) e
+          read_lines (in_job steps) line rest ≡ read_lines (progress AfterJob count presets (jobs ++ steps ∷ []) [] job_line steps) line rest
+      admitted-then steps line [] e f = ap (λ o. next (admit_unless o (in_job steps)) (λ q. finished q q.section)) e
       admitted-then steps line (l ∷ rest) e f =
           let onward : Progress → Result Script ListingFault = λ q. next (read_line q line l) (λ t. read_lines t (suc line) rest) in
-          ap (λ b. next (admit_before (inJob steps) b) onward) f ∙ ap (λ o. next (admit_unless o (inJob steps)) onward) e
+          ap (λ b. next (admit_before (in_job steps) b) onward) f ∙ ap (λ o. next (admit_unless o (in_job steps)) onward) e
 
     -- Jobs.
     abbrev Between : Section → Type 0

@@ -48,18 +48,18 @@ replay_other cells (c ∷ cs) cell h =
     ∙ get_or-set_other cells c.cell cell c.number 0 (λ (r : cell ≡ c.cell). e (sym r)))
     (cases_eq c.cell cell)
 
-pub touches-here : (cs : List Change) (i cell : ℕ) (d : Change) → i < length cs → (get_or cs i d).cell ≡ cell → touches (drop i cs) cell ≡ true
-touches-here cs i cell d l e = rw (drop_more cs i d l, eq-eqb (get_or cs i d).cell cell e)
+pub touches_here : (cs : List Change) (i cell : ℕ) (d : Change) → i < length cs → (get_or cs i d).cell ≡ cell → touches (drop i cs) cell ≡ true
+touches_here cs i cell d l e = rw (drop_more cs i d l, eq-eqb (get_or cs i d).cell cell e)
 
-pub touches-next : (cs : List Change) (i cell : ℕ) (d : Change) → i < length cs → ((get_or cs i d).cell ≡ cell → ⊥) → touches (drop i cs) cell ≡ touches (drop (i + 1) cs) cell
-touches-next cs i cell d l e = rw (drop_more cs i d l, ne_eqb (get_or cs i d).cell cell e)
+pub touches_next : (cs : List Change) (i cell : ℕ) (d : Change) → i < length cs → ((get_or cs i d).cell ≡ cell → ⊥) → touches (drop i cs) cell ≡ touches (drop (i + 1) cs) cell
+touches_next cs i cell d l e = rw (drop_more cs i d l, ne_eqb (get_or cs i d).cell cell e)
 
 pub touches_none : (cs : List Change) (i cell : ℕ) → length cs ≤ i → touches (drop i cs) cell ≡ false
 touches_none cs i cell l = rw (drop_all i cs l)
 
-pub number-none : (cs : List Change) (cell : ℕ) → touches cs cell ≡ false → newest_number cs cell ≡ None
-number-none [] cell h = refl
-number-none (c ∷ cs) cell h = let parts = or_parts (eqb c.cell cell) (touches cs cell) h in rw (parts.1, parts.0)
+pub number_none : (cs : List Change) (cell : ℕ) → touches cs cell ≡ false → newest_number cs cell ≡ None
+number_none [] cell h = refl
+number_none (c ∷ cs) cell h = let parts = or_parts (eqb c.cell cell) (touches cs cell) h in rw (parts.1, parts.0)
 
 -- Earlier changes do not change the newest number.
 number_later : (cs : List Change) (i cell : ℕ) → touches (drop i cs) cell ≡ true → (touches cs cell ≡ true) × (newest_number cs cell ≡ newest_number (drop i cs) cell)
@@ -68,8 +68,8 @@ number_later [] (suc i) cell h = (h, refl)
 number_later (c ∷ cs) (suc i) cell h = let later = number_later cs i cell h in (or_right (eqb c.cell cell) (touches cs cell) later.0, rw later.0 later.1)
 
 -- A change to the cell with none to it later has the newest number.
-pub number-here : (cs : List Change) (i cell : ℕ) (d : Change) → i < length cs → (get_or cs i d).cell ≡ cell → touches (drop (i + 1) cs) cell ≡ false → newest_number cs cell ≡ Some (get_or cs i d).number
-number-here cs i cell d l e h = (number_later cs i cell (touches-here cs i cell d l e)).1 ∙ rw (drop_more cs i d l, h, eq-eqb (get_or cs i d).cell cell e)
+pub number_here : (cs : List Change) (i cell : ℕ) (d : Change) → i < length cs → (get_or cs i d).cell ≡ cell → touches (drop (i + 1) cs) cell ≡ false → newest_number cs cell ≡ Some (get_or cs i d).number
+number_here cs i cell d l e h = (number_later cs i cell (touches_here cs i cell d l e)).1 ∙ rw (drop_more cs i d l, h, eq-eqb (get_or cs i d).cell cell e)
 
 -- A cell has the number of the newest change to it, or the one it had without any.
 pub replay-at : (cells : List ℕ) (cs : List Change) (cell : ℕ) → cell < length cells → get_or (replay cells cs) cell 0 ≡ unwrap_or (newest_number cs cell) (get_or cells cell 0)

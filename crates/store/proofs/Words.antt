@@ -22,8 +22,8 @@ get_inside n words i h k = rw (inside n words i h k, get_or-take n words i 0 k)
 pub get_outside : (n : ℕ) (words : List ℕ) (i : ℕ) → Beyond n words i → None ≡ cell_at (take n words) i
 get_outside n words i h = get_past (take n words) i (omega (arith, length-take n words))
 
-pub set-outside : (n : ℕ) (words : List ℕ) (i v : ℕ) → Beyond n words i → take n words ≡ set (take n words) i v
-set-outside n words i v h = rw (set_out (take n words) i v (omega (arith, length-take n words)))
+pub set_outside : (n : ℕ) (words : List ℕ) (i v : ℕ) → Beyond n words i → take n words ≡ set (take n words) i v
+set_outside n words i v h = rw (set_out (take n words) i v (omega (arith, length-take n words)))
 
 pub fit_take : (n : ℕ) (words : List ℕ) → ((k : ℕ) → get_or words k 0 < 2 ^ 32) → (k : ℕ) → get_or (take n words) k 0 < 2 ^ 32
 fit_take n words h k =

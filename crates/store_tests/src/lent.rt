@@ -1,4 +1,4 @@
-ghost use Rattle.std.specs.Prelude.{◌≡◌, ◌∷◌, length, set, slice_set};
+ghost use Rattle.std.specs.Prelude.{◌≡◌, ◌∷◌, length, slice_set};
 ghost use Rattle.store.specs.Cells.{word_cells, words_beyond};
 ghost use Rattle.change_list.specs.Lists.{cells_of};
 ghost use Rattle.change_list.specs.Records.{cell_count, list_cells, zeros};

@@ -99,8 +99,8 @@ module _ {A : Type 0} (call : CallOn A) (C : List ℕ) (t : Table) (slip : SlipN
   by-none n h = let e = sym (ap (call (state_of C t) slip.correction) (h C) ∙ n (state_of C t) slip.correction) in (ap (λ o. o.next) e, ap (λ o. o.answer) e)
 
 -- Opening.
-pub opened-is : (t : Table) → t.opened ≤ length t.corrections → length (corrections_in t) ≡ t.opened
-opened-is t h = length-map (take t.opened t.corrections) correction_of ∙ length-take-le t.opened t.corrections h
+pub opened_is : (t : Table) → t.opened ≤ length t.corrections → length (corrections_in t) ≡ t.opened
+opened_is t h = length-map (take t.opened t.corrections) correction_of ∙ length-take-le t.opened t.corrections h
 
 pub opened_more : (xs : List Correction) (n : ℕ) (c : Correction) (f : CorrectionState) → n < length xs → correction_of c ≡ f → map correction_of (take (n + 1) (set xs n c)) ≡ map correction_of (take n xs) ++ f ∷ []
 opened_more xs n c f h e =
@@ -134,9 +134,9 @@ abbrev undone : List JobState → ℕ
 undone [] = 0
 undone (b ∷ bs) = cond (is_done b.stage) (undone bs) (suc (undone bs))
 
-undone-is : (js : List Job) → unfinished js ≡ undone (map job_of js)
-undone-is [] = refl
-undone-is (b ∷ js) = ap (λ (n : ℕ). cond (is_done b.stage) n (suc n)) (undone-is js)
+undone_is : (js : List Job) → unfinished js ≡ undone (map job_of js)
+undone_is [] = refl
+undone_is (b ∷ js) = ap (λ (n : ℕ). cond (is_done b.stage) n (suc n)) (undone_is js)
 
 undone_unmarked : (bs : List JobState) → undone (map unmark bs) ≡ undone bs
 undone_unmarked [] = refl
@@ -144,7 +144,7 @@ undone_unmarked (b ∷ bs) = ap (λ (n : ℕ). cond (is_done b.stage) n (suc n))
 
 module _ (js js' : List Job) (e : map job_of js' ≡ map unmark (map job_of js)) where
   pub unfinished-unmarked : unfinished js' ≡ unfinished js
-  unfinished-unmarked = undone-is js' ∙ (ap undone e ∙ (undone_unmarked (map job_of js) ∙ sym (undone-is js)))
+  unfinished-unmarked = undone_is js' ∙ (ap undone e ∙ (undone_unmarked (map job_of js) ∙ sym (undone_is js)))
 
   pub length-unmarked : length js' ≡ length js
   length-unmarked = sym (length-map js' job_of) ∙ (ap length e ∙ (length-map (map job_of js) unmark ∙ length-map js job_of))

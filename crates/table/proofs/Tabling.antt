@@ -39,10 +39,10 @@ none_from (x ∷ xs) (suc n) zero h = absurd (omega arith)
 none_from (x ∷ xs) (suc n) (suc i) h = none_from xs n i (omega arith)
 
 -- By number, from 1: nothing stands before the first or after the last.
-pub none-by : {A : Type 0} (xs : List A) (n j : ℕ) → (j ≡ 0) ⊎ (n < j) → at (take n xs) j ≡ None
-none-by xs n zero h = refl
-none-by xs n (suc i) (inl e) = absurd (omega arith)
-none-by xs n (suc i) (inr l) = none_from xs n i (omega arith)
+pub none_by : {A : Type 0} (xs : List A) (n j : ℕ) → (j ≡ 0) ⊎ (n < j) → at (take n xs) j ≡ None
+none_by xs n zero h = refl
+none_by xs n (suc i) (inl e) = absurd (omega arith)
+none_by xs n (suc i) (inr l) = none_from xs n i (omega arith)
 
 nth_take : {A : Type 0} (xs : List A) (n i : ℕ) (d : A) → i < n → i < length xs → slice_get (take n xs) i ≡ Some (get_or xs i d)
 nth_take [] n i d h l = absurd (omega arith)
@@ -50,21 +50,21 @@ nth_take (x ∷ xs) zero i d h l = absurd (omega arith)
 nth_take (x ∷ xs) (suc n) zero d h l = refl
 nth_take (x ∷ xs) (suc n) (suc i) d h l = nth_take xs n i d (omega arith) (omega arith)
 
-pub some-by : {A : Type 0} (xs : List A) (n j : ℕ) (d : A) → 0 < j → j ≤ n → j ≤ length xs → at (take n xs) j ≡ Some (get_or xs (j - 1) d)
-some-by xs n zero d h l m = absurd (omega arith)
-some-by xs n (suc i) d h l m = let q : suc i - 1 ≡ i = omega arith in nth_take xs n i d (omega arith) (omega arith) ∙ ap (λ (k : ℕ). Some (get_or xs k d)) (sym q)
+pub some_by : {A : Type 0} (xs : List A) (n j : ℕ) (d : A) → 0 < j → j ≤ n → j ≤ length xs → at (take n xs) j ≡ Some (get_or xs (j - 1) d)
+some_by xs n zero d h l m = absurd (omega arith)
+some_by xs n (suc i) d h l m = let q : suc i - 1 ≡ i = omega arith in nth_take xs n i d (omega arith) (omega arith) ∙ ap (λ (k : ℕ). Some (get_or xs k d)) (sym q)
 
-nth_map-none : {A B : Type 0} (f : A → B) (xs : List A) (i : ℕ) → slice_get xs i ≡ None → slice_get (map f xs) i ≡ None
-nth_map-none f [] i e = refl
-nth_map-none f (x ∷ xs) zero e = zero_one (cc)
-nth_map-none f (x ∷ xs) (suc i) e = nth_map-none f xs i e
+nth_map_none : {A B : Type 0} (f : A → B) (xs : List A) (i : ℕ) → slice_get xs i ≡ None → slice_get (map f xs) i ≡ None
+nth_map_none f [] i e = refl
+nth_map_none f (x ∷ xs) zero e = zero_one (cc)
+nth_map_none f (x ∷ xs) (suc i) e = nth_map_none f xs i e
 
-at-map-none : {A B : Type 0} (f : A → B) (xs : List A) (j : ℕ) → at xs j ≡ None → at (map f xs) j ≡ None
-at-map-none f xs zero e = refl
-at-map-none f xs (suc i) e = nth_map-none f xs i e
+at-map_none : {A B : Type 0} (f : A → B) (xs : List A) (j : ℕ) → at xs j ≡ None → at (map f xs) j ≡ None
+at-map_none f xs zero e = refl
+at-map_none f xs (suc i) e = nth_map_none f xs i e
 
 pub no_row_by : {A B : Type 0} (f : A → B) (xs : List A) (n j : ℕ) → (j ≡ 0) ⊎ (n < j) → at (map f (take n xs)) j ≡ None
-no_row_by f xs n j h = at-map-none f (take n xs) j (none-by xs n j h)
+no_row_by f xs n j h = at-map_none f (take n xs) j (none_by xs n j h)
 
 -- How many have not committed.
 pub unfinished_le : (xs : List Job) → unfinished xs ≤ length xs
@@ -84,11 +84,11 @@ pub with_same : (s : State) (i : ℕ) (b : JobState) → at s.jobs (suc i) ≡ S
 with_same s i b e = λ k. record { number = s.number; cells = s.cells; jobs = put-again s.jobs (suc i) b e k; corrections = s.corrections; right = s.right; order = s.order; takings = s.takings; settings = s.settings }
 
 -- Whether a job is done does not change by its own turn.
-pub same-done : (s : State) (j : ℕ) (b b' : JobState) (m : Move) → Comes s j b b' m → is_done b'.stage ≡ is_done b.stage
-same-done s j b b' NoRule x = ap (λ z. is_done z.stage) x.0
-same-done s j b b' (Applies a) x = x.2
-same-done s j b b' Takes x = x.2
-same-done s j b b' Commits x = ap (λ z. is_done z.stage) x.0
+pub same_done : (s : State) (j : ℕ) (b b' : JobState) (m : Move) → Comes s j b b' m → is_done b'.stage ≡ is_done b.stage
+same_done s j b b' NoRule x = ap (λ z. is_done z.stage) x.0
+same_done s j b b' (Applies a) x = x.2
+same_done s j b b' Takes x = x.2
+same_done s j b b' Commits x = ap (λ z. is_done z.stage) x.0
 
 -- The room in the order, where a job changed that is as much or as little done as before.
 pub room_kept : (joined m n i : ℕ) (xs ys : List Job) (b b' : Job) → slice_get xs i ≡ Some b → ys ≡ set xs i b' → is_done b'.stage ≡ is_done b.stage → joined + (unfinished xs + m) ≤ length xs + n → joined + (unfinished ys + m) ≤ length ys + n
@@ -123,8 +123,8 @@ other_self j k bs q =
 pub other_end : (j k : ℕ) (bs : List JobState) → length bs ≤ k → other_marked j (suc k) (drop k bs) ≡ None
 other_end j k bs h = rw (drop_all k bs h)
 
-pub jobs-few : (n : ℕ) (xs : List Job) → length (map job_of (take n xs)) ≤ n
-jobs-few n xs = omega (arith, length-map (take n xs) job_of, length-take n xs)
+pub jobs_few : (n : ℕ) (xs : List Job) → length (map job_of (take n xs)) ≤ n
+jobs_few n xs = omega (arith, length-map (take n xs) job_of, length-take n xs)
 
 -- A job that gave up an entry of its write log is as much done as before.
 pub done_write : (b b' : Job) (r : Option Entry) → WriteOf (job_of b) (job_of b') r → is_done b'.stage ≡ is_done b.stage
@@ -132,8 +132,8 @@ done_write b b' None x = ap (λ z. is_done z.stage) x.1
 done_write b b' (Some e) x = ap (λ z. is_done z.stage) x.2
 
 -- While a job is not done, there is room in the order.
-pub room-left : (joined m n i : ℕ) (xs : List Job) (b : Job) → slice_get xs i ≡ Some b → is_done b.stage ≡ false → joined + (unfinished xs + m) ≤ length xs + n → joined < length xs + n
-room-left joined m n i xs b e f h = omega (arith, some-unfinished xs i b e f)
+pub room_left : (joined m n i : ℕ) (xs : List Job) (b : Job) → slice_get xs i ≡ Some b → is_done b.stage ≡ false → joined + (unfinished xs + m) ≤ length xs + n → joined < length xs + n
+room_left joined m n i xs b e f h = omega (arith, some-unfinished xs i b e f)
   where
     some-unfinished : (xs : List Job) (i : ℕ) (b : Job) → slice_get xs i ≡ Some b → is_done b.stage ≡ false → 0 < unfinished xs
     some-unfinished [] i b e f = zero_one (cc)

@@ -48,15 +48,15 @@ replay-holding cells (c ∷ cs) cell number h =
     (λ (e : c.cell ≡ cell → ⊥). rw (ne_eqb c.cell cell e) (replay-holding (set cells c.cell c.number) cs cell number parts.1))
     (cases_eq c.cell cell)
 
-replay-evicted : (cells : List ℕ) (cs : List Change) (cell number : ℕ) → distinct cs ≡ true → replay (set_below cells (oldest cs)) (holding (drop 1 cs) cell number) ≡ set (replay cells cs) cell number
-replay-evicted cells [] cell number h = refl
-replay-evicted cells (c ∷ cs) cell number h = replay-holding (set cells c.cell c.number) cs cell number (and_parts (not (touches cs c.cell)) (distinct cs) h).1
+replay_evicted : (cells : List ℕ) (cs : List Change) (cell number : ℕ) → distinct cs ≡ true → replay (set_below cells (oldest cs)) (holding (drop 1 cs) cell number) ≡ set (replay cells cs) cell number
+replay_evicted cells [] cell number h = refl
+replay_evicted cells (c ∷ cs) cell number h = replay-holding (set cells c.cell c.number) cs cell number (and_parts (not (touches cs c.cell)) (distinct cs) h).1
 
 -- A set of the layer sets its meaning.
 pub replay-set : (cells below : List ℕ) (cs held : List Change) (cell number : ℕ) → distinct cs ≡ true → below ≡ set_below cells (evicted cs cell) → held ≡ holding (remaining cs cell) cell number → replay below held ≡ set (replay cells cs) cell number
 replay-set cells below cs held cell number h b e =
     ⊎_elim
-    (λ (f : full cs cell ≡ true). rw (b, e, f) (replay-evicted cells cs cell number h))
+    (λ (f : full cs cell ≡ true). rw (b, e, f) (replay_evicted cells cs cell number h))
     (λ (f : full cs cell ≡ false). rw (b, e, f) (replay-holding cells cs cell number h))
     (cases_Bool (full cs cell))
 
@@ -67,8 +67,8 @@ pub get_below : (cells : List ℕ) (cs : List Change) (cell : ℕ) → cell < le
 get_below cells cs cell l h = rw (length-replay cells cs, replay-at cells cs cell (omega (arith, length-replay cells cs)), ← h)
 
 -- One held change after another is made below.
-pub replay-next : (cells after : List ℕ) (cs : List Change) (i : ℕ) (d : Change) → i < length cs → after ≡ set cells (get_or cs i d).cell (get_or cs i d).number → replay after (drop (i + 1) cs) ≡ replay cells (drop i cs)
-replay-next cells after cs i d l e = rw (e, drop_more cs i d l)
+pub replay_next : (cells after : List ℕ) (cs : List Change) (i : ℕ) (d : Change) → i < length cs → after ≡ set cells (get_or cs i d).cell (get_or cs i d).number → replay after (drop (i + 1) cs) ≡ replay cells (drop i cs)
+replay_next cells after cs i d l e = rw (e, drop_more cs i d l)
 
-pub replay-done : (cells before : List ℕ) (cs held : List Change) (i : ℕ) → length cs ≤ i → cs ≡ held → replay cells (drop i cs) ≡ replay before cs → cells ≡ replay before held
-replay-done cells before cs held i l e h = (rw (drop_all i cs l) at h) ∙ ap (replay before) e
+pub replay_done : (cells before : List ℕ) (cs held : List Change) (i : ℕ) → length cs ≤ i → cs ≡ held → replay cells (drop i cs) ≡ replay before cs → cells ≡ replay before held
+replay_done cells before cs held i l e h = (rw (drop_all i cs l) at h) ∙ ap (replay before) e

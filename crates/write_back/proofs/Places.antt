@@ -65,25 +65,25 @@ turned xs ys len cell f l e =
     let back : 1 + (len - 1) ≡ len = omega arith in
     ap (take (len - 1)) e ∙ take-append-le (len - 1) (drop 1 xs) (take 1 xs) (omega (arith, length-drop 1 xs)) ∙ sym (drop-take 1 (len - 1) xs) ∙ ap (λ (n : ℕ). drop 1 (take n xs)) back
 
-oldest-is : (xs : List Change) (len : ℕ) (d : Change) → 0 < len → 0 < length xs → Some (get_or xs 0 d) ≡ oldest (take len xs)
-oldest-is [] len d h l = absurd (omega arith)
-oldest-is (x ∷ xs) zero d h l = absurd (omega arith)
-oldest-is (x ∷ xs) (suc len) d h l = refl
+oldest_is : (xs : List Change) (len : ℕ) (d : Change) → 0 < len → 0 < length xs → Some (get_or xs 0 d) ≡ oldest (take len xs)
+oldest_is [] len d h l = absurd (omega arith)
+oldest_is (x ∷ xs) zero d h l = absurd (omega arith)
+oldest_is (x ∷ xs) (suc len) d h l = refl
 
-pub evicted-is : (xs : List Change) (len cell : ℕ) (d : Change) → full (take len xs) cell ≡ true → Some (get_or xs 0 d) ≡ evicted (take len xs) cell
-evicted-is xs len cell d f =
+pub evicted_is : (xs : List Change) (len cell : ℕ) (d : Change) → full (take len xs) cell ≡ true → Some (get_or xs 0 d) ≡ evicted (take len xs) cell
+evicted_is xs len cell d f =
     let long = full-length (take len xs) cell f in
-    let short = length-take len xs in rw f (oldest-is xs len d (omega arith) (omega arith))
+    let short = length-take len xs in rw f (oldest_is xs len d (omega arith) (omega arith))
 
-pub remaining-is : (cs : List Change) (cell : ℕ) → full cs cell ≡ true → drop 1 cs ≡ remaining cs cell
-remaining-is cs cell f = rw f
+pub remaining_is : (cs : List Change) (cell : ℕ) → full cs cell ≡ true → drop 1 cs ≡ remaining cs cell
+remaining_is cs cell f = rw f
 
-pub distinct-rest : (cs : List Change) → distinct cs ≡ true → distinct (drop 1 cs) ≡ true
-distinct-rest [] h = refl
-distinct-rest (c ∷ cs) h = (and_parts (not (touches cs c.cell)) (distinct cs) h).1
+pub distinct_rest : (cs : List Change) → distinct cs ≡ true → distinct (drop 1 cs) ≡ true
+distinct_rest [] h = refl
+distinct_rest (c ∷ cs) h = (and_parts (not (touches cs c.cell)) (distinct cs) h).1
 
-pub sound-rest : (count : ℕ) (cs : List Change) → sound count cs ≡ true → sound count (drop 1 cs) ≡ true
-sound-rest count cs h = sound_from_all count (drop 1 cs) (All-drop (Sound count) 1 cs (all_from_sound count cs h))
+pub sound_rest : (count : ℕ) (cs : List Change) → sound count cs ≡ true → sound count (drop 1 cs) ≡ true
+sound_rest count cs h = sound_from_all count (drop 1 cs) (All-drop (Sound count) 1 cs (all_from_sound count cs h))
 
 sound-holding_all : (P : Change → Type 0) (cs : List Change) (cell number : ℕ) → P (record { cell = cell; number = number }) → All P cs → All P (holding cs cell number)
 sound-holding_all P [] cell number p h = (p, tt)
@@ -97,9 +97,9 @@ pub sound-holding : (count : ℕ) (cs : List Change) (cell number : ℕ) → cel
 sound-holding count cs cell number a b h = sound_from_all count (holding cs cell number) (sound-holding_all (Sound count) cs cell number (a, b) (all_from_sound count cs h))
 
 -- The table, as an array whose first `len` are held.
-pub put-within : (xs held : List Change) (len i cell number : ℕ) (d : Change) → held ≡ take len xs → (i < length held) × (touches (take i held) cell ≡ false) × ((get_or held i d).cell ≡ cell)
+pub put_within : (xs held : List Change) (len i cell number : ℕ) (d : Change) → held ≡ take len xs → (i < length held) × (touches (take i held) cell ≡ false) × ((get_or held i d).cell ≡ cell)
     → take len (set xs i (record { cell = cell; number = number })) ≡ holding (take len xs) cell number
-put-within xs held len i cell number d e p =
+put_within xs held len i cell number d e p =
     let new : Change = record { cell = cell; number = number } in
     let short = length-take len xs in
     let same = ap length e in

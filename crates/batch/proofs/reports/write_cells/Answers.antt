@@ -2,7 +2,7 @@ use Rattle.std.proofs.Common.{◌+◌, drop, string_bytes, arith}
 use Rattle.model.specs.Intake.{cell_answer}
 use Rattle.run.specs.Runs.{state}
 use Rattle.batch.specs.Reports.{answer_text, cells_text}
-use Rattle.batch.proofs.Reporting.{one_more, all_written, cells-next, cells_over}
+use Rattle.batch.proofs.Reporting.{one_more, all_written, cells_next, cells_over}
 use Rattle.batch.proofs.reports.write_cells.Goals as goal
 
 pub loop-cell-preserved : goal.loop-cell-preserved
@@ -11,7 +11,7 @@ loop-cell-preserved g c =
     let cells = s.cells in
     let k = c.loop-cell.cell in
     one_more (string_bytes c.write_cell.new.out) (string_bytes c.loop-cell.out) (string_bytes c.args.out.now) (answer_text k (cell_answer s k)) (cells_text k (drop k cells)) (cells_text (k + 1) (drop (k + 1) cells)) (cells_text 0 cells)
-    c.in_ok-write_cell.ensures (cells-next s k) c.loop-cell.invariant
+    c.in_ok-write_cell.ensures (cells_next s k) c.loop-cell.invariant
 
 pub returns : goal.returns
 returns g c =

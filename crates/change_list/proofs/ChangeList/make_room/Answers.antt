@@ -4,8 +4,8 @@ use Rattle.std.proofs.lemmas.Bool.{not-true, not-false}
 use Rattle.store.specs.declared.change.Change.{Change}
 use Rattle.store.specs.Changes.{touches}
 use Rattle.change_list.specs.Records.{cell_count, newest}
-use Rattle.change_list.proofs.Counting.{newest-few}
-use Rattle.change_list.proofs.Kept.{turn_keeps, turn_leaves, sound_moved, loop_over, sound_kept, room-left, room-none}
+use Rattle.change_list.proofs.Counting.{newest_few}
+use Rattle.change_list.proofs.Kept.{turn_keeps, turn_leaves, sound_moved, loop_over, sound_kept, room_left, room_none}
 use Rattle.change_list.proofs.ChangeList.make_room.Goals.{After-loop-i, then-is_newest, else-is_newest}
 use Rattle.change_list.proofs.ChangeList.make_room.Goals as goal
 
@@ -14,7 +14,7 @@ returns-then-self c =
     let list = c.args.self.now in
     let records = list.records.now in
     record {
-      kept = sym (room-left (length records) (take list.used records) (omega (arith, length-take-le list.used records list.within)));
+      kept = sym (room_left (length records) (take list.used records) (omega (arith, length-take-le list.used records list.within)));
       room = c.if-self.true;
       length = refl;
       loan = refl;
@@ -83,7 +83,7 @@ fewer c =
     let list = c.loop-i.self in
     let entry = c.args.self.now in
     let long = length-take-le c.loop-i.len list.records.now (omega arith) in
-    let short = newest-few (cell_count (length entry.records.now)) (take entry.used entry.records.now) entry.sound in
+    let short = newest_few (cell_count (length entry.records.now)) (take entry.used entry.records.now) entry.sound in
     let same = ap length (over c) in
     let some = c.requires in omega arith
 
@@ -99,7 +99,7 @@ returns c =
     let records = entry.records.now in
     let b = (goal.at.returns c).After-loop-i in
     record {
-      kept = over b ∙ sym (room-none (length records) (take entry.used records) (omega (arith, length-take-le entry.used records entry.within)));
+      kept = over b ∙ sym (room_none (length records) (take entry.used records) (omega (arith, length-take-le entry.used records entry.within)));
       room = fewer b;
       length = c.loop-i.invariant.1;
       loan = c.loop-i.invariant.2;

@@ -3,7 +3,7 @@ use Rattle.std.proofs.lemmas.List.{set_past}
 use Rattle.std.proofs.lemmas.Bool.{le-ltb, lt-ltb}
 use Rattle.store.specs.declared.change.Change.{Change}
 use Rattle.change_list.specs.Records.{list_cells, with_room}
-use Rattle.change_list.proofs.Kept.{added, cells-added, length-cells, sound-added}
+use Rattle.change_list.proofs.Kept.{added, cells_added, length-cells, sound_added}
 use Rattle.change_list.proofs.cells.ChangeListStore.set.Goals as goal
 
 pub returns-then-cell-count : goal.returns-then-cell-count
@@ -28,7 +28,7 @@ returns c =
     let change : Change = record { cell = c.args.cell; number = c.args.number } in
     record {
       answer = sym (lt-ltb c.args.cell (length (list_cells list.records.now list.used)) (omega arith));
-      after = cells-added list.records.now room.records.now list.used room.used change made.room made.length made.kept;
+      after = cells_added list.records.now room.records.now list.used room.used change made.room made.length made.kept;
       same = ap (λ n. n ∷ []) made.loan;
       records = added room.records.now room.used change (with_room (length list.records.now) (take list.used list.records.now)) made.room made.kept;
     }
@@ -42,4 +42,4 @@ invariant_of-self c =
     let change : Change = record { cell = c.args.cell; number = c.args.number } in
     let same = c.make_room.ensures.length in
     let free = c.make_room.ensures.room in
-    record { within = simp length-set (omega arith); sound = sound-added records room.used change free (rw same (omega arith)) (omega arith) room.sound }
+    record { within = simp length-set (omega arith); sound = sound_added records room.used change free (rw same (omega arith)) (omega arith) room.sound }

@@ -1,7 +1,7 @@
 use Rattle.std.proofs.Common.{ℕ, List, ◌∷◌, sym, refl, ap}
 use lib.Seq.{take-set-lt}
 use Rattle.std.proofs.lemmas.List.{drop-set-lt}
-use Rattle.store.proofs.Words.{inside, outside, set-outside}
+use Rattle.store.proofs.Words.{inside, outside, set_outside}
 use Rattle.store.proofs.word_table.WordTableStore.set.Goals as goal
 
 pub returns-then-i-lt-MOST_CELLS : goal.returns-then-i-lt-MOST_CELLS
@@ -21,6 +21,6 @@ returns-else-i-self c =
     let words = c.args.self.now.words.now in
     record {
       answer = sym (outside 65536 words c.args.cell c.else-i-self.either);
-      after = set-outside 65536 words c.args.cell c.args.number c.else-i-self.either;
+      after = set_outside 65536 words c.args.cell c.args.number c.else-i-self.either;
       same = refl;
     }

@@ -11,7 +11,7 @@ use Rattle.job.specs.Shape.{is_done}
 use Rattle.model.specs.declared.Party.TheVariants.{Job}
 use Rattle.table.specs.Shape.{unclosed}
 use Rattle.table.specs.States.{state_of, done}
-use Rattle.table.proofs.Tabling.{row_at, row-set, room-left, room_used}
+use Rattle.table.proofs.Tabling.{row_at, row-set, room_left, room_used}
 use Rattle.table.proofs.table.Table.finish.Goals as goal
 
 some_same : {A : Type 0} {x y : A} → Some x ≡ Some y → x ≡ y
@@ -24,7 +24,7 @@ not_yet t i b h e x =
     sym (ap (λ z. is_done z.stage) same) ∙ x.2
 
 room : (t : Table) (i : ℕ) (b : row.Job) → i < t.count → slice_get t.jobs i ≡ Some b → (s : JobState) × (at (jobs_in t) (suc i) ≡ Some s) × (is_done s.stage ≡ false) → t.joined < length t.jobs + 8
-room t i b h e x = let left = room-left t.joined (unclosed (take t.opened t.corrections)) t.opened i t.jobs b e (not_yet t i b h e x) t.room in omega (arith, left, t.places)
+room t i b h e x = let left = room_left t.joined (unclosed (take t.opened t.corrections)) t.opened i t.jobs b e (not_yet t i b h e x) t.room in omega (arith, left, t.places)
 
 pub bounds-self-self : goal.bounds-self-self
 bounds-self-self c =

@@ -6,7 +6,7 @@ use Rattle.std.proofs.lemmas.Bool.{lt-ltb, le-ltb}
 use Rattle.model.specs.Calls.{correction}
 use Rattle.table.specs.Corrections.{numbers}
 use Rattle.table.specs.States.{corrections_in, state_of}
-use Rattle.table.proofs.Corrected.{opened-is, opened_more, unclosed_more}
+use Rattle.table.proofs.Corrected.{opened_is, opened_more, unclosed_more}
 use Rattle.table.proofs.table.Table.open_correction.Goals as goal
 
 -- The slice has as many corrections as were opened.
@@ -25,7 +25,7 @@ returns c =
     let t = c.args.self.now in
     let few : t.opened ≤ length t.corrections = omega (arith, t.places) in
     let room : t.opened < 8 = omega (arith, c.if-opened-ge-MOST_CORRECTIONS.false, sliced t few) in
-    let n = opened-is t few in
+    let n = opened_is t few in
     let below : length (corrections_in t) < 8 = omega (arith, n, room) in
     let e = opened_more t.corrections t.opened c.new.result (correction true [] []) (omega (arith, room)) c.new.ensures in
     let number : t.opened + 1 ≡ suc (length (corrections_in t)) = omega (arith, n) in
@@ -40,5 +40,5 @@ pub returns-then-opened-ge-MOST_CORRECTIONS : goal.returns-then-opened-ge-MOST_C
 returns-then-opened-ge-MOST_CORRECTIONS c =
     let t = c.args.self.now in
     let few : t.opened ≤ length t.corrections = omega (arith, t.places) in
-    let full : 8 ≤ length (corrections_in t) = omega (arith, opened-is t few, sliced t few, c.if-opened-ge-MOST_CORRECTIONS.true) in
+    let full : 8 ≤ length (corrections_in t) = omega (arith, opened_is t few, sliced t few, c.if-opened-ge-MOST_CORRECTIONS.true) in
     record { next = λ C. rw (le-ltb (length (corrections_in t)) 8 full); answer = λ C. rw (le-ltb (length (corrections_in t)) 8 full) }

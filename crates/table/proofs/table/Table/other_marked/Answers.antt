@@ -3,7 +3,7 @@ use Rattle.std.proofs.lemmas.Option.{slice_get-get_or}
 use Rattle.job.specs.Jobs.{job_of}
 use Rattle.model.specs.Rules.{other_marked}
 use Rattle.table.specs.States.{jobs_in}
-use Rattle.table.proofs.Tabling.{row_at, other_found, other_next, other_self, other_end, jobs-few}
+use Rattle.table.proofs.Tabling.{row_at, other_found, other_next, other_self, other_end, jobs_few}
 use Rattle.table.proofs.table.Table.other_marked.Goals as goal
 use Rattle.table.proofs.table.Table.other_marked.Goals.{else-k-i-via-then-k-i+else-is_marked, else-k-i-via-else-k-i}
 
@@ -32,4 +32,4 @@ loop-k-preserved c =
 pub returns : goal.returns
 returns c =
     let t = c.args.self.now in
-    sym (other_end (suc c.args.i) c.loop-k.k (jobs_in t) (omega (arith, jobs-few t.count t.jobs, c.loop-k-test.false))) ∙ c.loop-k.invariant
+    sym (other_end (suc c.args.i) c.loop-k.k (jobs_in t) (omega (arith, jobs_few t.count t.jobs, c.loop-k-test.false))) ∙ c.loop-k.invariant

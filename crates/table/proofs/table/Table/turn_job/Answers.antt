@@ -2,7 +2,7 @@ use Rattle.std.proofs.Common.{take, refl}
 use Rattle.job.specs.Jobs.{job_of}
 use Rattle.table.specs.Shape.{unclosed}
 use Rattle.table.specs.States.{state_of}
-use Rattle.table.proofs.Tabling.{row-set, row_at, room_kept, same-done}
+use Rattle.table.proofs.Tabling.{row-set, row_at, room_kept, same_done}
 use Rattle.table.proofs.table.Table.turn_job.Goals as goal
 
 pub invariant_of-self : goal.invariant_of-self
@@ -10,7 +10,7 @@ invariant_of-self g c =
     let t = c.args.self.now in
     let s = state_of (g.S.Store.cells c.args.store.now) t in
     let x = c.turn_at.ensures in
-    record { few = t.few; wide = t.wide; room = room_kept t.joined (unclosed (take t.opened t.corrections)) t.opened c.args.i t.jobs c.turn_at.new.jobs x.0 x.1 x.2 x.3 (same-done s 0 (job_of x.0) (job_of x.1) c.turn_at.result (x.4 s 0 refl refl)) t.room; places = t.places }
+    record { few = t.few; wide = t.wide; room = room_kept t.joined (unclosed (take t.opened t.corrections)) t.opened c.args.i t.jobs c.turn_at.new.jobs x.0 x.1 x.2 x.3 (same_done s 0 (job_of x.0) (job_of x.1) c.turn_at.result (x.4 s 0 refl refl)) t.room; places = t.places }
 
 pub returns : goal.returns
 returns g c =

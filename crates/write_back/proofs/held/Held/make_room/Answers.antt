@@ -1,7 +1,7 @@
 use Rattle.std.proofs.Common.{◌≡◌, ◌-◌, ◌^◌, true, take, drop, sym, ap, ◌∙◌, arith}
 use Rattle.store.specs.Changes.{distinct, sound}
 use Rattle.write_back.specs.Holding.{full, held_in}
-use Rattle.write_back.proofs.Places.{distinct-rest, evicted-is, remaining-is, sound-rest, turned}
+use Rattle.write_back.proofs.Places.{distinct_rest, evicted_is, remaining_is, sound_rest, turned}
 use Rattle.write_back.proofs.held.Held.make_room.Goals.{After-rotate_left}
 use Rattle.write_back.proofs.held.Held.make_room.Goals as goal
 
@@ -14,13 +14,13 @@ left c = let table = c.args.self.now in turned table.changes c.rotate_left.new.s
 pub invariant_of-self : goal.invariant_of-self
 invariant_of-self c =
     let table = c.args.self.now in
-    record { few = omega arith; apart = ap distinct (left c) ∙ distinct-rest (held_in table) table.apart; sound = ap (sound (2 ^ 32)) (left c) ∙ sound-rest (2 ^ 32) (held_in table) table.sound }
+    record { few = omega arith; apart = ap distinct (left c) ∙ distinct_rest (held_in table) table.apart; sound = ap (sound (2 ^ 32)) (left c) ∙ sound_rest (2 ^ 32) (held_in table) table.sound }
 
 pub returns : goal.returns
 returns c =
     let table = c.args.self.now in
     let turned = (goal.at.returns c).After-rotate_left in
     record {
-      value = evicted-is table.changes table.len c.args.cell (record { cell = 0; number = 0 }) (is-full turned);
-      after = left turned ∙ remaining-is (held_in table) c.args.cell (is-full turned);
+      value = evicted_is table.changes table.len c.args.cell (record { cell = 0; number = 0 }) (is-full turned);
+      after = left turned ∙ remaining_is (held_in table) c.args.cell (is-full turned);
     }

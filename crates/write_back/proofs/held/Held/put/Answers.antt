@@ -3,14 +3,14 @@ use Rattle.store.specs.declared.change.Change.{Change}
 use Rattle.store.specs.Changes.{distinct, sound, touches}
 use Rattle.write_back.specs.Holding.{held_in, holding}
 use Rattle.write_back.proofs.Layer.{distinct-holding}
-use Rattle.write_back.proofs.Places.{put-within, put_beyond, room, sound-holding}
+use Rattle.write_back.proofs.Places.{put_within, put_beyond, room, sound-holding}
 use Rattle.write_back.proofs.held.Held.put.Goals.{In-Some, In_default}
 use Rattle.write_back.proofs.held.Held.put.Goals as goal
 
 replaced : (c : In-Some) → take c.args.self.now.len (set c.args.self.now.changes c.in-Some.i (record { cell = c.args.cell; number = c.args.number })) ≡ holding (held_in c.args.self.now) c.args.cell c.args.number
 replaced c =
     let table = c.args.self.now in
-    put-within table.changes c.changes.result.now table.len c.in-Some.i c.args.cell c.args.number (record { cell = 0; number = 0 }) c.changes.ensures c.in-Some.ensures
+    put_within table.changes c.changes.result.now table.len c.in-Some.i c.args.cell c.args.number (record { cell = 0; number = 0 }) c.changes.ensures c.in-Some.ensures
 
 few : (c : In_default) → length c.args.self.now.changes ≡ 32 → c.args.self.now.len < 32
 few c long =
