@@ -1,5 +1,5 @@
 -- What a run's table means over the cells of its store. Assumes nothing.
-use Rattle.std.specs.Prelude.{◌≡◌, ℕ, suc, List, [], ◌∷◌, ◌++◌, map, take, set, Some, None, Option, slice_set}
+use Rattle.std.specs.Prelude.{◌≡◌, ℕ, suc, List, [], ◌∷◌, ◌++◌, map, take, Some, None, Option, slice_set}
 use Rattle.std.specs.List.{slice_get}
 use Rattle.correction.specs.Corrections.{correction_of}
 use Rattle.job.specs.Jobs.{job_of}

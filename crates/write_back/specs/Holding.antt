@@ -1,5 +1,5 @@
 -- What a write-back layer holds, as a list of changes, the one held longest first. Assumes nothing.
-use Rattle.std.specs.Prelude.{ℕ, Bool, cond, not, ◌&&◌, List, [], ◌∷◌, length, take, drop, set, Some, None, Option, ◌==◌, nat_le, slice_set}
+use Rattle.std.specs.Prelude.{ℕ, Bool, cond, not, ◌&&◌, List, [], ◌∷◌, length, take, drop, Some, None, Option, ◌==◌, nat_le, slice_set}
 use Rattle.store.specs.declared.change.Change.{Change}
 use Rattle.store.specs.Changes.{touches}
 use Rattle.write_back.specs.declared.held.Held.{Held}

@@ -1,6 +1,6 @@
 use Rattle.std.proofs.Common.{◌≡◌, ℕ, List, Err, sym, ◌∙◌, subst}
 use Rattle.std.proofs.lemmas.Result.{err_from_is_err_and}
-use Rattle.script.specs.Faults.{read_lines, outcome}
+use Rattle.script.specs.Faults.{read_lines}
 use Rattle.listing_reader.specs.Drafts.{progress_of, read_as}
 use Rattle.listing_reader.specs.Ends.{lines_from}
 use Rattle.listing_reader.proofs.Lining.{ended, short-outcome, lawful}

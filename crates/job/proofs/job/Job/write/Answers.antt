@@ -1,5 +1,4 @@
 use Rattle.std.proofs.Common.{◌+◌, length, get_or, take, refl, ap, arith}
-use Rattle.model.specs.Logs.{put}
 use Rattle.model.specs.declared.Step.TheVariants.{Write}
 use Rattle.model.proofs.LogLaws.{length-put_le}
 use Rattle.cell_log.specs.Rows.{entries_of}

@@ -1,6 +1,6 @@
 use Rattle.std.proofs.Common.{ℕ, ◌+◌, ◌-◌, sym, refl, ap, ◌∙◌}
 use native.Mathlib.Nat.{sub-zero}
-use Rattle.model.specs.Calls.{settle_in, turn}
+use Rattle.model.specs.Calls.{settle_in}
 use Rattle.model.specs.Rules.{State}
 use Rattle.run.specs.Runs.{state}
 use Rattle.run.proofs.Settling.{settle_more, settle_end, settle_free}
