@@ -5,7 +5,9 @@ name=$1
 shift
 program=$root/crates/$name/out/$name
 if [ ! -x "$program" ] || [ -n "$(find "$root/crates" "$root/crates.txt" -name out -prune -o -newer "$program" -type f -print | head -n 1)" ]; then
-    # The kit's own run ends with the program's status; it is run once on no input, so that what is proved is built.
+    # The kit proves, links and then runs; its status is the program's own. An older program is taken away first, so that
+    # one is there afterwards only where all was proved.
+    rm -f "$program"
     (cd "$root/crates/$name" && rt run </dev/null >/dev/null) >&2
     [ -x "$program" ] || exit 2
 fi

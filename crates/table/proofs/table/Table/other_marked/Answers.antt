@@ -1,4 +1,4 @@
-use Rattle.std.proofs.Common.{ℕ, suc, get_or, drop, Some, sym, ap, ◌∙◌, add-one, arith}
+use Rattle.std.proofs.Common.{◌≢◌, ℕ, suc, get_or, drop, Some, sym, ap, ◌∙◌, add-one, arith}
 use Rattle.std.proofs.lemmas.Option.{slice_get-get_or}
 use Rattle.job.specs.Jobs.{job_of}
 use Rattle.model.specs.Rules.{other_marked}
@@ -12,8 +12,9 @@ returns-then-is_marked c =
     let t = c.args.self.now in
     let k = c.loop-k.k in
     let b = get_or t.jobs k c.index-self-k.result in
+    let apart : k ≢ c.args.i = c.if-k-i.true in
     ap Some (add-one k)
-    ∙ sym (other_found (suc c.args.i) k (jobs_in t) (job_of b) (row_at job_of t.jobs t.count k b c.loop-k-test.true (slice_get-get_or t.jobs k _ (omega (arith, t.few)))) (sym c.if-is_marked.ensures) (λ q. c.if-k-i.true (omega arith)))
+    ∙ sym (other_found (suc c.args.i) k (jobs_in t) (job_of b) (row_at job_of t.jobs t.count k b c.loop-k-test.true (slice_get-get_or t.jobs k _ (omega (arith, t.few)))) (sym c.if-is_marked.ensures) (λ q. apart (omega arith)))
     ∙ c.loop-k.invariant
 
 pub loop-k-preserved : goal.loop-k-preserved
