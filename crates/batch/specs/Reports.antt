@@ -5,9 +5,9 @@ use Rattle.model.specs.Rules.{JobState, State}
 use Rattle.model.specs.declared.Refusal.{Refusal}
 use Rattle.model.specs.declared.Party.{Party}
 use Rattle.model.specs.declared.Party.TheVariants as party
-use Rattle.report.specs.Text.{line_text}
+use Rattle.report.specs.Text.{line_text, fault_line_text}
 use Rattle.report.specs.declared.Line.{Line}
-use Rattle.report.specs.declared.Line.TheVariants.{Committed, Job, Cell, Fault}
+use Rattle.report.specs.declared.Line.TheVariants.{Committed, Job, Cell}
 use Rattle.script.specs.Scripts.{Script}
 use Rattle.script.specs.Faults.{cause_number}
 use Rattle.script.specs.declared.ListingFault.{ListingFault}
@@ -65,4 +65,4 @@ report_text s = order_text 1 s.order ++ (jobs_text s.order 1 s.jobs ++ cells_tex
 -- What is printed of a listing that comes to a script or to a fault.
 abbrev pub output_text : Result Script ListingFault → List ℕ
 output_text (Ok s) = report_text (final_state s)
-output_text (Err f) = closed_line (Fault (cause_number f.cause) f.line f.column)
+output_text (Err f) = fault_line_text (record { number = cause_number f.cause; line = f.line; column = f.column }) ++ 10 ∷ []

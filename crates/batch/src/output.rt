@@ -7,12 +7,12 @@ ghost use Rattle.batch.specs.Reports.{report_text, output_text};
 ghost use Rattle.batch.specs.Runs.{final_state};
 
 use crate::admissions::admit_all;
-use crate::reports::{text_of, write_report};
+use crate::reports::write_report;
 use crate::turns::{play, preset};
 use listing_reader::read::read;
 use listing_reader::room::Room;
 use listing_reader::script_read::Script;
-use report::Line;
+use report::FaultLine;
 use run::intake::Intake;
 use run::run::Run;
 use script::ListingFault;
@@ -116,13 +116,10 @@ pub fn run_listing(heap: Global, listing: &[u8]) -> Result<Output, AllocError>
 fn fault_text(heap: Global, fault: ListingFault) -> Result<String, AllocError>
     ensures { IfOk result (λ t. string_bytes t ≡ output_text (Err fault)) }
 {
-    let number = fault.cause.number();
-    text_of(
-        heap,
-        Line::Fault {
-            number,
-            line: fault.line,
-            column: fault.column,
-        },
-    )
+    let line = FaultLine {
+        number: fault.cause.number(),
+        line: fault.line,
+        column: fault.column,
+    };
+    format!(in heap; "{line}\n")
 }

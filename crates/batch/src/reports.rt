@@ -11,7 +11,7 @@ use std::alloc::{AllocError, Global};
 use store::Store;
 
 // A line with its closing byte.
-pub(crate) fn text_of(heap: Global, line: Line) -> Result<String, AllocError>
+fn text_of(heap: Global, line: Line) -> Result<String, AllocError>
     ensures { IfOk result (λ t. string_bytes t ≡ closed_line line) }
 {
     format!(in heap; "{line}\n")

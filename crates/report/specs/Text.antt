@@ -1,7 +1,8 @@
 -- The bytes of the lines that a run prints. Assumes nothing.
 use Rattle.std.specs.Prelude.{ℕ, ◌-◌, Bool, true, false, List, ◌++◌, length, replicate, codes, decimal}
+use Rattle.report.specs.declared.FaultLine.{FaultLine}
 use Rattle.report.specs.declared.Line.{Line}
-use Rattle.report.specs.declared.Line.TheVariants.{Committed, Job, Cell, Fault}
+use Rattle.report.specs.declared.Line.TheVariants.{Committed, Job, Cell}
 
 -- The blanks before a number in a field.
 abbrev pub blanks : ℕ → List ℕ
@@ -20,4 +21,7 @@ abbrev pub line_text : Line → List ℕ
 line_text (Committed place job) = codes "D" ++ (field place ++ field job)
 line_text (Job job starts committed) = codes "N" ++ (field job ++ (field starts ++ field (one_if committed)))
 line_text (Cell cell number) = codes "C" ++ (field cell ++ field number)
-line_text (Fault number line column) = codes "!" ++ (field number ++ (field line ++ field column))
+
+-- The line of a fault, likewise.
+abbrev pub fault_line_text : FaultLine → List ℕ
+fault_line_text fault = codes "!" ++ (field fault.number ++ (field fault.line ++ field fault.column))

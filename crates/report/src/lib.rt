@@ -1,7 +1,7 @@
 #![tactic(auto)]
 
 ghost use Rattle.std.specs.Prelude.{◌≡◌, Some};
-ghost use Rattle.report.specs.Text.{blanks, field, line_text};
+ghost use Rattle.report.specs.Text.{blanks, field, line_text, fault_line_text};
 
 use std::fmt;
 
@@ -24,12 +24,14 @@ pub enum Line {
         cell: u32,
         number: u32,
     },
-    // !: what is wrong with a listing, by its number, and the line and column where it stands.
-    Fault {
-        number: u32,
-        line: u32,
-        column: u32,
-    },
+}
+
+// !: what is wrong with a listing, by its number, and the line and column where it stands, without the closing newline.
+#[derive(Clone, Copy, Debug, PartialEq)]
+pub struct FaultLine {
+    pub number: u32,
+    pub line: u32,
+    pub column: u32,
 }
 
 // A number in a field of 11 columns.
@@ -71,17 +73,18 @@ impl fmt::Display for Line {
                 let b = Field(number);
                 write!(f, "C{a}{b}")
             }
-            Line::Fault {
-                number,
-                line,
-                column,
-            } => {
-                let a = Field(number);
-                let b = Field(line);
-                let c = Field(column);
-                write!(f, "!{a}{b}{c}")
-            }
         }
+    }
+}
+
+impl fmt::Display for FaultLine {
+    ghost output = { λ x. Some (fault_line_text x) };
+
+    fn fmt<W: fmt::Write>(&self, f: &mut fmt::Formatter<W>) -> fmt::Result {
+        let a = Field(self.number);
+        let b = Field(self.line);
+        let c = Field(self.column);
+        write!(f, "!{a}{b}{c}")
     }
 }
 

@@ -24,16 +24,35 @@ fn change_list(rt: HostRuntime) {
     assert!(rt; over(ChangeList::new(&mut records)));
 }
 
+#[test]
+fn word_table_corrected(rt: HostRuntime) {
+    let mut words = [0; CELLS];
+    assert!(rt; over_corrected(WordTable::new(&mut words)));
+}
+
+#[test]
+fn change_list_corrected(rt: HostRuntime) {
+    let mut records = [OLD; CELLS + 1];
+    assert!(rt; over_corrected(ChangeList::new(&mut records)));
+}
+
 // The runs over a store, and then over two layers on it.
 fn over<S: Store + Drop>(store: S) -> bool {
     let (store, plain) = runs(store);
-    let (store, corrected) = corrections(store);
     let (layers, layered) = runs(WriteBack::new(WriteBack::new(store)));
-    let (layers, corrected_in_layers) = corrections(layers);
+    let store = layers.into_store().into_store();
+    let left = store.get(0) == Some(0) && store.get(1) == Some(8) && store.get(2) == Some(9);
+    plain && layered && left
+}
+
+// The runs with corrections over a store, and then over two layers on it, which then still hold a run without any.
+fn over_corrected<S: Store + Drop>(store: S) -> bool {
+    let (store, corrected) = corrections(store);
+    let (layers, layered) = corrections(WriteBack::new(WriteBack::new(store)));
     let (layers, settled) = settles(cleared(layers));
     let store = layers.into_store().into_store();
     let left = store.get(0) == Some(0) && store.get(1) == Some(8) && store.get(2) == Some(9);
-    plain && corrected && layered && corrected_in_layers && settled && left
+    corrected && layered && settled && left
 }
 
 // One run after the other, each over cells that hold 0.
