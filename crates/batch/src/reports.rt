@@ -1,12 +1,12 @@
 ghost use Rattle.std.specs.Prelude.{◌≡◌, ◌++◌, is_ok, IfOk, if◌then◌else◌, string_bytes, OnOk};
 ghost use Rattle.model.specs.Intake.{cell_answer};
 ghost use Rattle.model.specs.Logs.{at};
-ghost use Rattle.run.specs.Runs.{state};
+ghost use Rattle.correctable_run.specs.Runs.{state};
 ghost use Rattle.batch.specs.Reports.{closed_line, entry_text, order_text, is_job, has_committed, job_text, jobs_text, answer_text, cells_text, report_text};
 
+use correctable_run::run::Run;
 use model::Party;
 use report::Line;
-use run::run::Run;
 use std::alloc::{AllocError, Global};
 use store::Store;
 

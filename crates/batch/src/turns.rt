@@ -1,9 +1,9 @@
 ghost use Rattle.std.specs.Prelude.{◌≡◌, replicate};
 ghost use Rattle.model.specs.Calls.{Turn, after};
-ghost use Rattle.run.specs.Runs.{state};
+ghost use Rattle.correctable_run.specs.Runs.{state};
 ghost use Rattle.batch.specs.Runs.{calls_of, preset_in};
 
-use run::run::Run;
+use correctable_run::run::Run;
 use script::{Allotment, Preset};
 use store::Store;
 

@@ -5,16 +5,23 @@ ghost use Rattle.cell_log.specs.Rows.{entries_of};
 
 use crate::log::Log;
 use crate::row::ROOM;
-use crate::scans::seek;
+use crate::scans::{first_cell, seek, set_each};
 use model::Entry;
 use store::Store;
 
 impl Log {
+    fn entries(&self) -> &[Entry]
+        ensures value { result.now ≡ entries_of self.now.row }
+        ensures len { length result.now ≡ self.now.row.len }
+    {
+        &self.row.entries[0..self.row.len]
+    }
+
     // Where the entry of a cell stands, or where it would go.
     fn place(&self, cell: u32) -> Result<usize, usize>
         ensures { Placed (entries_of self.now.row) cell result }
     {
-        seek(self.row.entries(), cell)
+        seek(self.entries(), cell)
     }
 
     pub fn len(&self) -> usize
@@ -22,7 +29,7 @@ impl Log {
         ensures stored { result ≡ self.now.row.len }
         ensures few { result ≤ 24 }
     {
-        self.row.len()
+        self.entries().len()
     }
 
     // The number for a cell.
@@ -30,7 +37,7 @@ impl Log {
         ensures { result ≡ find (entries_of self.now.row) cell }
     {
         match self.place(cell) {
-            Ok(i) => Some(self.row.entries()[i].number),
+            Ok(i) => Some(self.entries()[i].number),
             Err(_) => None,
         }
     }
@@ -68,21 +75,25 @@ impl Log {
     pub fn lowest(&self) -> Option<u32>
         ensures { result ≡ lowest any (entries_of self.now.row) }
     {
-        self.row.lowest()
+        if self.row.len > 0 {
+            Some(self.row.entries[0].cell)
+        } else {
+            None
+        }
     }
 
     // The lowest cell whose number here still is its number in the store.
     pub fn lowest_current<S: Store>(&self, store: &S) -> Option<u32>
         ensures { result ≡ lowest (current (S.Store.cells store.now)) (entries_of self.now.row) }
     {
-        self.row.lowest_current(store)
+        first_cell(self.entries(), store, true)
     }
 
     // The lowest cell whose number here differs from its number in the store.
     pub fn lowest_changed<S: Store>(&self, store: &S) -> Option<u32>
         ensures { result ≡ lowest (changed (S.Store.cells store.now)) (entries_of self.now.row) }
     {
-        self.row.lowest_changed(store)
+        first_cell(self.entries(), store, false)
     }
 
     // Sets every entry's cell to its number.
@@ -90,6 +101,6 @@ impl Log {
         ensures after { S.Store.cells store.new ≡ set_all (entries_of self.now.row) (S.Store.cells store.old) }
         ensures same { S.Store.loan store.new ≡ S.Store.loan store.old }
     {
-        self.row.set_all(store);
+        set_each(self.entries(), store);
     }
 }

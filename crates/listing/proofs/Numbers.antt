@@ -1,6 +1,6 @@
 -- A field and its number.
-use Rattle.std.proofs.Common.{◌≡◌, ℕ, ◌^◌, ◌<◌, Bool, true, false, ◌&&◌, eqb, List, [], ◌∷◌, Some, None, sym, refl, ap, ◌∙◌, subst, inl, inr, arith}
-use Rattle.std.proofs.lemmas.Bool.{eqb-true, eq-eqb, and_parts, cases_Bool}
+use Rattle.std.proofs.Common.{◌≡◌, ℕ, ◌^◌, ◌<◌, Bool, true, false, ◌&&◌, eqb, List, [], ◌∷◌, Some, None, Option, refl, ap, ◌∙◌, subst, arith, ◌≢◌}
+use Rattle.std.proofs.lemmas.Bool.{eqb-true, eq-eqb, and_parts}
 use Rattle.report.specs.Text.{field}
 use Rattle.listing.specs.Columns.{shifted, value_from, same_bytes, number_if, number_of}
 use Rattle.listing.proofs.Written.{value_field}
@@ -42,15 +42,13 @@ field_of_number bs n e =
     let p = number_if_lem (value_from 0 bs) n (same_bytes bs (field (value_from 0 bs))) e in
     (same_bytes_lem bs (field (value_from 0 bs)) p.0 ∙ ap field p.1, subst (λ m. m < 2 ^ 32) p.1 (value_fits 0 bs (omega arith)))
 
--- What the columns come to is the number, or the field has none.
-pub is_number : (bs : List ℕ) (v : ℕ) → v ≡ value_from 0 bs → bs ≡ field v → Some v ≡ number_of bs
-is_number bs v e w =
-    let t : same_bytes bs (field (value_from 0 bs)) ≡ true = subst (λ zs. same_bytes bs zs ≡ true) (w ∙ ap field e) (same_self bs) in
-    ap Some e ∙ sym (ap (number_if (value_from 0 bs)) t)
+-- What number a field has by what is written there.
+pub number_written : (bs : List ℕ) (n : ℕ) → n < 2 ^ 32 → bs ≡ field n → number_of bs ≡ Some n
+number_written bs n h w = ap number_of w ∙ number_of_field n h
 
-pub is_none : (bs : List ℕ) (v : ℕ) → v ≡ value_from 0 bs → (bs ≡ field v → ⊥) → None ≡ number_of bs
-is_none bs v e no_field =
-    elim (cases_Bool (same_bytes bs (field (value_from 0 bs)))) [
-      | inl t ↦ absurd (no_field (same_bytes_lem bs (field (value_from 0 bs)) t ∙ ap field (sym e)))
-      | inr t ↦ sym (ap (number_if (value_from 0 bs)) t)
-    ]
+pub number_unwritten : (bs : List ℕ) → ((n : ℕ) → n < 2 ^ 32 → bs ≢ field n) → number_of bs ≡ None
+number_unwritten bs none = unread (number_of bs) refl
+  where
+    unread : (o : Option ℕ) → number_of bs ≡ o → number_of bs ≡ None
+    unread None e = e
+    unread (Some n) e = let p = field_of_number bs n e in absurd (none n p.1 p.0)

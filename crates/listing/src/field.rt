@@ -1,14 +1,13 @@
 ghost use Rattle.std.specs.Prelude.{◌≡◌, ℕ, ◌^◌, ◌<◌, true, MatchOption, ◌≢◌};
 ghost use Rattle.report.specs.Text as text;
-ghost use Rattle.listing.specs.Columns.{left_of, value_from, number_of};
+ghost use Rattle.listing.specs.Columns.{left_of, value_from};
 
 // How many columns a field has.
 const COLUMNS: usize = 11;
 
 // The number in a field, if the field is exactly what that number is written as.
 pub fn number_in(field: &[u8]) -> Option<u32>
-    ensures exact { MatchOption result ((n : ℕ) → n < 2 ^ 32 → field.now ≢ text.field n) (λ n. field.now ≡ text.field n) }
-    ensures value { result ≡ number_of field.now }
+    ensures { MatchOption result ((n : ℕ) → n < 2 ^ 32 → field.now ≢ text.field n) (λ n. field.now ≡ text.field n) }
 {
     let number = value(field);
     if shows(field, number) {

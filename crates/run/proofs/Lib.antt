@@ -1,1 +1,4 @@
+mod Rostering
+mod Rules
 mod Settling
+mod Tabling

@@ -1,8 +1,9 @@
 #![tactic(auto)]
 
-mod correcting;
-mod counts;
 pub mod intake;
+mod roster;
+mod rosters;
 pub mod run;
-pub mod slip;
+mod table;
+mod tables;
 mod turning;

@@ -1,5 +1,5 @@
+use crate::table::Table;
 use store::Store;
-use table::table::Table;
 
 // A running run. Only it takes turns, and only sealing an intake makes one.
 pub struct Run<S: Store> {

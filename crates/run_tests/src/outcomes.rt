@@ -94,7 +94,7 @@ pub(crate) fn waits<S: Store>(store: S) -> (S, bool) {
 }
 
 // Gives a job turns until it has none to take, and tells how many applied a rule.
-pub(crate) fn settled_turns<S: Store>(run: &mut Run<S>, job: u32) -> u32 {
+fn settled_turns<S: Store>(run: &mut Run<S>, job: u32) -> u32 {
     for turns in 0..MOST_ROUNDS {
         if !matches!(run.turn(job), Ok(Some(_))) {
             return turns;
@@ -120,7 +120,7 @@ pub(crate) fn settles<S: Store>(store: S) -> (S, bool) {
 }
 
 // Gives a job turns until it takes the right.
-pub(crate) fn takes_right<S: Store>(run: &mut Run<S>, job: u32) -> bool {
+fn takes_right<S: Store>(run: &mut Run<S>, job: u32) -> bool {
     for _ in 0..MOST_ROUNDS {
         if let Ok(Some(Applied { rule: Rule::V3, .. })) = run.turn(job) {
             return true;

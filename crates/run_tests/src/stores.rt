@@ -1,4 +1,3 @@
-use crate::corrected::{outdated, overtaken, set_again};
 use crate::outcomes::{settles, sums, waits};
 use change_list::ChangeList;
 use store::Store;
@@ -24,18 +23,6 @@ fn change_list(rt: HostRuntime) {
     assert!(rt; over(ChangeList::new(&mut records)));
 }
 
-#[test]
-fn word_table_corrected(rt: HostRuntime) {
-    let mut words = [0; CELLS];
-    assert!(rt; over_corrected(WordTable::new(&mut words)));
-}
-
-#[test]
-fn change_list_corrected(rt: HostRuntime) {
-    let mut records = [OLD; CELLS + 1];
-    assert!(rt; over_corrected(ChangeList::new(&mut records)));
-}
-
 // The runs over a store, and then over two layers on it.
 fn over<S: Store + Drop>(store: S) -> bool {
     let (store, plain) = runs(store);
@@ -45,36 +32,12 @@ fn over<S: Store + Drop>(store: S) -> bool {
     plain && layered && left
 }
 
-// The runs with corrections over a store, and then over two layers on it, which then still hold a run without any.
-fn over_corrected<S: Store + Drop>(store: S) -> bool {
-    let (store, corrected) = corrections(store);
-    let (layers, layered) = corrections(WriteBack::new(WriteBack::new(store)));
-    let (layers, settled) = settles(cleared(layers));
-    let store = layers.into_store().into_store();
-    let left = store.get(0) == Some(0) && store.get(1) == Some(8) && store.get(2) == Some(9);
-    corrected && layered && settled && left
-}
-
 // One run after the other, each over cells that hold 0.
 fn runs<S: Store>(store: S) -> (S, bool) {
     let (store, summed) = sums(cleared(store));
     let (store, waited) = waits(cleared(store));
     let (store, settled) = settles(cleared(store));
     (store, summed && waited && settled)
-}
-
-// Runs with corrections, each over cells of which the first holds 7.
-fn corrections<S: Store>(store: S) -> (S, bool) {
-    let (store, refused) = outdated(with_seven(store));
-    let (store, restarted) = overtaken(with_seven(store));
-    let (store, committed) = set_again(with_seven(store));
-    (store, refused && restarted && committed)
-}
-
-fn with_seven<S: Store>(store: S) -> S {
-    let mut store = cleared(store);
-    store.set(0, 7);
-    store
 }
 
 fn cleared<S: Store>(store: S) -> S {

@@ -3,7 +3,7 @@ use Rattle.listing_reader.specs.Drafts.{script_in}
 use Rattle.model.specs.Calls.{after}
 use Rattle.model.specs.Intake.{Intake}
 use Rattle.model.specs.declared.Step.{Step}
-use Rattle.run.specs.Runs.{state}
+use Rattle.correctable_run.specs.Runs.{state}
 use Rattle.script.specs.declared.Allotment.{Allotment}
 use Rattle.script.specs.declared.Preset.{Preset}
 use Rattle.batch.specs.Runs.{calls_of, preset_in, admit_all, intake_in}

@@ -1,5 +1,5 @@
 use Rattle.std.proofs.Common.{◌+◌, ◌||◌, drop, sym, ap, ◌∙◌, arith}
-use Rattle.run.specs.Runs.{state}
+use Rattle.correctable_run.specs.Runs.{state}
 use Rattle.batch.specs.Reports.{has_committed}
 use Rattle.batch.proofs.Reporting.{committed_next, committed_over}
 use Rattle.batch.proofs.reports.has_committed.Goals as goal

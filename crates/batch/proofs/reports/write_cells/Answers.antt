@@ -1,6 +1,6 @@
 use Rattle.std.proofs.Common.{◌+◌, drop, string_bytes, arith}
 use Rattle.model.specs.Intake.{cell_answer}
-use Rattle.run.specs.Runs.{state}
+use Rattle.correctable_run.specs.Runs.{state}
 use Rattle.batch.specs.Reports.{answer_text, cells_text}
 use Rattle.batch.proofs.Reporting.{one_more, all_written, cells_next, cells_over}
 use Rattle.batch.proofs.reports.write_cells.Goals as goal

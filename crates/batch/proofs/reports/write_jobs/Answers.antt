@@ -1,6 +1,6 @@
 use Rattle.std.proofs.Common.{◌+◌, drop, string_bytes, arith}
 use Rattle.model.specs.Logs.{at}
-use Rattle.run.specs.Runs.{state}
+use Rattle.correctable_run.specs.Runs.{state}
 use Rattle.batch.specs.Reports.{job_text, jobs_text}
 use Rattle.batch.proofs.Reporting.{one_more, all_written, jobs_next, jobs_over}
 use Rattle.batch.proofs.reports.write_jobs.Goals as goal

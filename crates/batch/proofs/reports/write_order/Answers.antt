@@ -1,6 +1,6 @@
 use Rattle.std.proofs.Common.{◌+◌, drop, string_bytes, arith}
 use Rattle.model.specs.Logs.{at}
-use Rattle.run.specs.Runs.{state}
+use Rattle.correctable_run.specs.Runs.{state}
 use Rattle.batch.specs.Reports.{entry_text, order_text}
 use Rattle.batch.proofs.Reporting.{one_more, all_written, order_next, order_over}
 use Rattle.batch.proofs.reports.write_order.Goals as goal

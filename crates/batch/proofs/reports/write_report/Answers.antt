@@ -1,6 +1,6 @@
 use Rattle.std.proofs.Common.{◌≡◌, ◌++◌, string_bytes}
 use Rattle.std.proofs.lemmas.Result.{IfOk-weaker}
-use Rattle.run.specs.Runs.{state}
+use Rattle.correctable_run.specs.Runs.{state}
 use Rattle.batch.specs.Reports.{order_text, jobs_text, cells_text, report_text}
 use Rattle.batch.proofs.Reporting.{three_parts}
 use Rattle.batch.proofs.reports.write_report.Goals as goal

@@ -2,7 +2,7 @@ use Rattle.std.proofs.Common.{ℕ, ◌+◌, ◌-◌, replicate, sym, ap, ◌∙�
 use native.Mathlib.Nat.{sub-zero}
 use Rattle.model.specs.Calls.{Turn, after}
 use Rattle.model.specs.Rules.{State}
-use Rattle.run.specs.Runs.{state}
+use Rattle.correctable_run.specs.Runs.{state}
 use Rattle.batch.proofs.Playing.{turns_more, turns-over}
 use Rattle.batch.proofs.turns.give_turns.Goals as goal
 

@@ -1,6 +1,6 @@
 use Rattle.std.proofs.Common.{◌≡◌, ◌-◌, replicate}
 use Rattle.model.specs.Calls.{Turn, after}
-use Rattle.run.specs.Runs.{state}
+use Rattle.correctable_run.specs.Runs.{state}
 use Rattle.batch.proofs.turns.give_turns.Given as goal
 
 abbrev pub invariant-loop-k : goal.invariant-loop-k

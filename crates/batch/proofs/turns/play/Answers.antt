@@ -1,7 +1,7 @@
 use Rattle.std.proofs.Common.{◌+◌, drop, sym, ap, ◌∙◌}
 use Rattle.model.specs.Calls.{after}
 use Rattle.model.specs.Rules.{State}
-use Rattle.run.specs.Runs.{state}
+use Rattle.correctable_run.specs.Runs.{state}
 use Rattle.batch.specs.Runs.{calls_of}
 use Rattle.batch.proofs.Playing.{next-turns, no-turns}
 use Rattle.batch.proofs.turns.play.Goals as goal

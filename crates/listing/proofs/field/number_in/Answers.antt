@@ -3,19 +3,9 @@ use Rattle.std.proofs.lemmas.Bool.{false≢true}
 use Rattle.report.specs.Text.{field}
 use Rattle.listing.specs.Columns.{value_from}
 use Rattle.listing.proofs.Written.{value_field}
-use Rattle.listing.proofs.Numbers.{is_number, is_none}
 use Rattle.listing.proofs.field.number_in.Goals as goal
 
-pub returns-then-shows : goal.returns-then-shows
-returns-then-shows c =
-    let written = c.shows.ensures.written c.if-shows.true in
-    record { exact = written; value = is_number c.args.field.now c.value-number.result c.value-number.ensures written }
-
 pub returns-else-shows : goal.returns-else-shows
-returns-else-shows c =
-    record {
-      exact = λ n h e.
-          let value = c.value-number.ensures ∙ (ap (value_from 0) e ∙ value_field n h) in
-          false≢true (sym c.if-shows.false ∙ c.shows.ensures.found (e ∙ ap field (sym value)));
-      value = is_none c.args.field.now c.value-number.result c.value-number.ensures (λ e. false≢true (sym c.if-shows.false ∙ c.shows.ensures.found e));
-    }
+returns-else-shows c n h e =
+    let value = c.value-number.ensures ∙ (ap (value_from 0) e ∙ value_field n h) in
+    false≢true (sym c.if-shows.false ∙ c.shows.ensures.found (e ∙ ap field (sym value)))

@@ -1,0 +1,82 @@
+ghost use Rattle.std.specs.Prelude.{◌≡◌};
+ghost use Rattle.model.specs.Calls.{turn, settle};
+ghost use Rattle.model.specs.Intake.{closed_cells, cell_answer, entry_answer, starts_answer};
+ghost use Rattle.correctable_run.specs.Runs.{state};
+
+use crate::run::Run;
+use model::{Applied, Party, Refusal};
+use store::Store;
+
+// A committing job has at most 24 cells to set, and then frees the right.
+const MOST_COMMIT_TURNS: usize = 25;
+
+impl<S: Store> Run<S> {
+    // Gives a job one turn, which applies the first rule of the job's stage that fits, or answers `None`.
+    pub fn turn(&mut self, job: u32) -> Result<Option<Applied>, Refusal>
+        ensures next { state S.Store.cells self.new ≡ (turn (state S.Store.cells self.old) job).next }
+        ensures answer { result ≡ (turn (state S.Store.cells self.old) job).answer }
+        ensures loan { S.Store.loan self.new.store ≡ S.Store.loan self.old.store }
+    {
+        self.table.turn(&mut self.store, job)
+    }
+
+    // Gives turns to the job that holds the commit right until the right is free.
+    pub fn settle(&mut self)
+        ensures next { state S.Store.cells self.new ≡ (settle (state S.Store.cells self.old)).next }
+        ensures loan { S.Store.loan self.new.store ≡ S.Store.loan self.old.store }
+    {
+        let most = self.table.len() + MOST_COMMIT_TURNS;
+        for k in 0..most {
+            let Some(holder) = self.table.right() else {
+                return;
+            };
+            let _ = self.turn(holder);
+        }
+    }
+
+    // Settles, ends the run and gives its store back.
+    pub fn close(self) -> S
+        ensures cells { S.Store.cells result ≡ closed_cells (state S.Store.cells self) }
+        ensures loan { S.Store.loan result ≡ S.Store.loan self.store }
+    {
+        let mut run = self;
+        run.settle();
+        let Run { store, table: _ } = run;
+        store
+    }
+
+    // The number of a cell.
+    pub fn cell(&self, cell: u32) -> Result<u32, Refusal>
+        ensures { result ≡ cell_answer (state S.Store.cells self.now) cell }
+    {
+        self.store.get(cell).ok_or(Refusal::NoSuchCell)
+    }
+
+    // Who stands at a place of the commit order, from 1.
+    pub fn entry(&self, place: u32) -> Option<Party>
+        ensures { result ≡ entry_answer (state S.Store.cells self.now) place }
+    {
+        self.table.entry(place)
+    }
+
+    // How often a job has started.
+    pub fn starts(&self, job: u32) -> Result<u32, Refusal>
+        ensures { result ≡ starts_answer (state S.Store.cells self.now) job }
+    {
+        self.table.starts(job)
+    }
+
+    // How often the commit right was taken.
+    pub fn takings(&self) -> u32
+        ensures { result ≡ (state S.Store.cells self.now).takings }
+    {
+        self.table.takings()
+    }
+
+    // How often a cell was set.
+    pub fn settings(&self) -> u32
+        ensures { result ≡ (state S.Store.cells self.now).settings }
+    {
+        self.table.settings()
+    }
+}

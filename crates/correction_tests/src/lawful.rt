@@ -1,0 +1,23 @@
+ghost use Rattle.std.specs.Prelude.{◌≡◌, [], ◌∷◌};
+ghost use Rattle.model.specs.Calls.{Turn, File};
+ghost use Rattle.model.specs.Intake.{sealed};
+ghost use Rattle.model.specs.Law.{left_by};
+ghost use Rattle.correctable_run.specs.Slips.{numbers_of};
+ghost use Rattle.table.specs.Intakes.{intake_of};
+
+use correctable_run::intake::Intake;
+use correctable_run::slip::{Slip, Unfiled};
+use store::Store;
+
+// Shows how the law follows for a sequence of calls from their contracts alone: whatever the intake, the job and the
+// slip, the store that comes back holds what the replay of the commit order leaves.
+pub fn turn_and_file<S: Store>(intake: Intake<S>, job: u32, slip: Slip) -> S
+    ensures { S.Store.cells result ≡ left_by (sealed (intake_of (S.Store.cells intake.store) intake.roster)) (Turn job ∷ File (numbers_of slip) ∷ []) }
+{
+    let mut run = intake.seal();
+    let _ = run.turn(job);
+    if let Err(Unfiled { slip, refusal: _ }) = run.file(slip) {
+        slip.discard();
+    }
+    run.close()
+}

@@ -1,0 +1,68 @@
+-- From what the table did to the model's turn.
+use Rattle.std.proofs.Common.{◌≡◌, ℕ, suc, List, set, Some, None, Ok, Err, sym, ap, ◌∙◌, subst}
+use Rattle.job.specs.Moves.{Comes, WriteOf}
+use Rattle.job.specs.declared.moves.Move.TheVariants.{NoRule, Applies, Takes, Commits}
+use Rattle.model.specs.Calls.{Turned, named, apply, turn, turn_of}
+use Rattle.model.specs.Logs.{at, find, value_in}
+use Rattle.model.specs.Rules.{JobState, State, step_of, rules_of, other_marked, first_fit, unmark_in, with_jobs, with_job, effect}
+use Rattle.model.specs.declared.Applied.{Applied}
+use Rattle.model.specs.declared.Entry.{Entry}
+use Rattle.model.specs.declared.Refusal.TheVariants.{NoSuchJob}
+use Rattle.model.specs.declared.Rule.{Rule}
+use Rattle.model.specs.declared.Rule.TheVariants.{V3, C1, C2, C3}
+use Rattle.model.specs.declared.Stage.TheVariants.{Commit}
+use Rattle.run.specs.States.{with_right, with_setting, with_joined}
+use Rattle.run.proofs.Tabling.{with_same}
+
+-- A turn of job j in run s leaves s' and answers a.
+abbrev pub TurnIs : State → ℕ → State → Turned → Type 0
+TurnIs s j s' a = (s' ≡ (turn s j).next) × (a ≡ (turn s j).answer)
+
+pub refused : (s : State) (j : ℕ) → at s.jobs j ≡ None → TurnIs s j s (Err NoSuchJob)
+refused s j e = (sym (ap (λ o. (turn_of s j o).next) e), sym (ap (λ o. (turn_of s j o).answer) e))
+
+module _ (s s' : State) (i : ℕ) (b : JobState) (here : at s.jobs (suc i) ≡ Some b) where
+  turn_is : turn s (suc i) ≡ turn_of s (suc i) (Some b)
+  turn_is = ap (turn_of s (suc i)) here
+
+  made : (a : Turned) → s' ≡ (turn_of s (suc i) (Some b)).next → a ≡ (turn_of s (suc i) (Some b)).answer → TurnIs s (suc i) s' a
+  made a e f = (e ∙ sym (ap (λ o. o.next) turn_is), f ∙ sym (ap (λ o. o.answer) turn_is))
+
+  pub rests : (b' : JobState) → s' ≡ with_job s (suc i) b' → Comes s (suc i) b b' NoRule → TurnIs s (suc i) s' (Ok None)
+  rests b' e x = made (Ok None) (e ∙ (ap (with_job s (suc i)) x.0 ∙ (with_same s i b here ∙ sym x.1))) (sym x.2)
+
+  pub goes : (b' : JobState) (a : Applied) → s' ≡ with_job s (suc i) b' → Comes s (suc i) b b' (Applies a) → TurnIs s (suc i) s' (Ok (Some a))
+  goes b' a e x = made (Ok (Some a)) (e ∙ sym x.0) (sym x.1)
+
+  pub takes : (b' : JobState) (t : State) → t ≡ with_job s (suc i) b' → s' ≡ with_right t (suc i) → Comes s (suc i) b b' Takes → TurnIs s (suc i) s' (Ok (Some (record { rule = V3; cell = None })))
+  takes b' t e f x = made _ (f ∙ (ap (λ z. with_right z (suc i)) e ∙ sym x.0)) (sym x.1)
+
+  -- Where the job commits, nothing has changed yet.
+  pub still : (b' : JobState) → s' ≡ with_job s (suc i) b' → Comes s (suc i) b b' Commits → s' ≡ s
+  still b' e x = e ∙ (ap (with_job s (suc i)) x.0 ∙ with_same s i b here)
+
+  module _ (st : b.stage ≡ Commit) where
+    -- The rule that fits is the one that is applied.
+    by-fit : (r : Rule) (c : ℕ) → first_fit s (suc i) b (step_of b) (rules_of b.stage (step_of b)) ≡ Some (r, c) → s' ≡ effect s (suc i) b (step_of b) c r →
+        TurnIs s (suc i) s' (Ok (Some (record { rule = r; cell = named r c })))
+    by-fit r c f e = made _ (e ∙ sym (ap (λ o. (apply s (suc i) b (step_of b) o).next) f)) (sym (ap (λ o. (apply s (suc i) b (step_of b) o).answer) f))
+
+    pub c1 : (k : ℕ) → Some k ≡ other_marked (suc i) 1 s.jobs → s' ≡ with_jobs s (unmark_in s.jobs k (at s.jobs k)) → TurnIs s (suc i) s' (Ok (Some (record { rule = C1; cell = None })))
+    c1 k f e = by-fit C1 k (rw (st, ← f)) e
+
+    pub c2 : (b' : JobState) (entry : Entry) (D : List ℕ) → None ≡ other_marked (suc i) 1 s.jobs → WriteOf b b' (Some entry) → D ≡ set s.cells entry.cell entry.number → s' ≡ with_setting s D (suc i) b' →
+        TurnIs s (suc i) s' (Ok (Some (record { rule = C2; cell = Some entry.cell })))
+    c2 b' entry D f x d e =
+        by-fit C2 entry.cell (rw (st, ← f, x.0))
+        (e ∙ (ap (λ z. with_setting s z (suc i) b') (d ∙ ap (set s.cells entry.cell) (sym x.1)) ∙ ap (with_setting s (set s.cells entry.cell (value_in (find b.writes entry.cell))) (suc i)) x.2))
+
+    pub c3 : (b' : JobState) → None ≡ other_marked (suc i) 1 s.jobs → WriteOf b b' None → s' ≡ with_joined s (suc i) b → TurnIs s (suc i) s' (Ok (Some (record { rule = C3; cell = None })))
+    c3 b' f x e = by-fit C3 0 (rw (st, ← f, x.0)) e
+
+-- Where the job's number is a place and one.
+pub at-number : (s s' : State) (job i : ℕ) (a : Turned) → job ≡ suc i → TurnIs s (suc i) s' a → TurnIs s job s' a
+at-number s s' job i a e x = subst (λ j. TurnIs s j s' a) (sym e) x
+
+-- A job by its number is one job.
+pub same_job : (s : State) (i : ℕ) (a b : JobState) → at s.jobs (suc i) ≡ Some a → at s.jobs (suc i) ≡ Some b → a ≡ b
+same_job s i a b e f = cc
