@@ -154,15 +154,20 @@ fn in_two_runs(rt: HostRuntime) {
     assert!(rt; good);
 }
 
-// A slip is of use in its own run alone. One whose run is closed is discarded.
+// A slip is of use in its own run alone, also where the other run has an open correction of that number. One whose run
+// is closed is discarded.
 fn two_runs<S: Store, T: Store>(store: S, other: T) -> (S, T, bool) {
     let mut run = Intake::new(store, RUN).seal();
     let mut other = Intake::new(other, OTHER).seal();
     let Ok(slip) = run.open_correction() else {
         return (run.close(), other.close(), false);
     };
-    let opened = opens(&mut other, 1);
-    let spent = refuses_slip(&mut other, slip);
+    let Ok(own) = other.open_correction() else {
+        let _ = run.withdraw(slip);
+        return (run.close(), other.close(), false);
+    };
+    let refused = refuses_slip(&mut other, slip);
+    let open = other.withdraw(own) == Ok(());
     let Ok(slip) = run.open_correction() else {
         return (run.close(), other.close(), false);
     };
@@ -170,7 +175,7 @@ fn two_runs<S: Store, T: Store>(store: S, other: T) -> (S, T, bool) {
     let store = run.close();
     slip.discard();
     let kept = store.get(0) == Some(3);
-    (store, other.close(), opened && spent && wrote && kept)
+    (store, other.close(), refused && open && wrote && kept)
 }
 
 // The slip of another run, which the withdrawal spends.
