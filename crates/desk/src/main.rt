@@ -60,7 +60,7 @@ fn play<S: Store>(rt: &impl Print, run: &mut Run<S>, job: u32, turns: u32) -> io
 }
 
 fn refused(rt: &impl Print, correction: u32, refusal: Refusal) -> io::Result<()> {
-    let number = refusal.number();
+    let number = u32::from(refusal);
     match refusal {
         Refusal::Changed { cell } => println!(rt;
             "correction {correction}: refused by {number}, cell {cell} has changed"

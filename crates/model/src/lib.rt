@@ -8,7 +8,7 @@ ghost use Rattle.model.specs.ShortRuns.{ShortRuns};
 use std::fmt;
 
 // A step of a job's program, over eight 32-bit registers, numbered 0 to 7. The letters are those of a listing.
-#[derive(Clone, Copy, Debug, PartialEq)]
+#[derive(Clone, Copy, Debug, Default, PartialEq)]
 pub enum Step {
     // R: reads the cell into the register.
     Read {
@@ -43,7 +43,8 @@ pub enum Step {
     },
     // T: waits.
     Wait,
-    // E: ends.
+    // E: ends. It also fills the places of a program that no step stands in.
+    #[default]
     End,
 }
 
@@ -135,12 +136,12 @@ pub enum Refusal {
     Changed { cell: u32 },
 }
 
-impl Refusal {
-    // The number under which a refusal is told.
-    pub fn number(self) -> u32
-        ensures { result ≡ refusal_number self }
-    {
-        match self {
+// The number under which a refusal is told.
+impl From<Refusal> for u32 {
+    ghost from_gives = { λ refusal number. number ≡ refusal_number refusal };
+
+    fn from(refusal: Refusal) -> u32 {
+        match refusal {
             Refusal::TooManyJobs => 1,
             Refusal::StepCount => 2,
             Refusal::NoSuchRegister => 3,
@@ -169,33 +170,27 @@ impl fmt::Display for Rule {
     ghost output = { λ x. Some (rule_name x) };
 
     fn fmt<W: fmt::Write>(&self, f: &mut fmt::Formatter<W>) -> fmt::Result {
-        f.write_str(name_of(*self))
-    }
-}
-
-fn name_of(rule: Rule) -> &'static str
-    ensures { result.now ≡ rule_name rule }
-{
-    match rule {
-        Rule::S1 => "s1",
-        Rule::S2 => "s2",
-        Rule::S3 => "s3",
-        Rule::R1 => "r1",
-        Rule::R2 => "r2",
-        Rule::R3 => "r3",
-        Rule::W1 => "w1",
-        Rule::W2 => "w2",
-        Rule::P => "p",
-        Rule::Rt => "rt",
-        Rule::Rb => "rb",
-        Rule::E => "e",
-        Rule::V1 => "v1",
-        Rule::V2 => "v2",
-        Rule::V3 => "v3",
-        Rule::V4 => "v4",
-        Rule::C1 => "c1",
-        Rule::C2 => "c2",
-        Rule::C3 => "c3",
+        f.write_str(match *self {
+            Rule::S1 => "s1",
+            Rule::S2 => "s2",
+            Rule::S3 => "s3",
+            Rule::R1 => "r1",
+            Rule::R2 => "r2",
+            Rule::R3 => "r3",
+            Rule::W1 => "w1",
+            Rule::W2 => "w2",
+            Rule::P => "p",
+            Rule::Rt => "rt",
+            Rule::Rb => "rb",
+            Rule::E => "e",
+            Rule::V1 => "v1",
+            Rule::V2 => "v2",
+            Rule::V3 => "v3",
+            Rule::V4 => "v4",
+            Rule::C1 => "c1",
+            Rule::C2 => "c2",
+            Rule::C3 => "c3",
+        })
     }
 }
 

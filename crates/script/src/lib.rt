@@ -225,9 +225,9 @@ impl Cause {
             Cause::Letter => 15,
             Cause::NotANumber => 16,
             Cause::NotAllowed => 17,
-            Cause::NoSuchCell => Refusal::NoSuchCell.number(),
-            Cause::NoSuchJob => Refusal::NoSuchJob.number(),
-            Cause::Admission(fault) => fault.refusal.number(),
+            Cause::NoSuchCell => u32::from(Refusal::NoSuchCell),
+            Cause::NoSuchJob => u32::from(Refusal::NoSuchJob),
+            Cause::Admission(fault) => u32::from(fault.refusal),
         }
     }
 }
