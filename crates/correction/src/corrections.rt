@@ -115,3 +115,11 @@ impl Correction {
         }
     }
 }
+
+impl Default for Correction {
+    ghost is_default = { λ c. correction_of c ≡ correction true [] [] };
+
+    fn default() -> Correction {
+        Correction::new()
+    }
+}

@@ -1,7 +1,7 @@
 use crate::turns::{adder, settled_turns};
-use correctable_run::intake::Intake;
-use correctable_run::run::Run;
-use correctable_run::slip::{Slip, Unfiled};
+use run::intake::Intake;
+use run::run::Run;
+use run::slip::{Slip, Unfiled};
 use model::{Applied, Party, Refusal, Rule};
 use store::Store;
 

@@ -2,11 +2,11 @@ ghost use Rattle.std.specs.Prelude.{◌≡◌, [], ◌∷◌};
 ghost use Rattle.model.specs.Calls.{Turn, File};
 ghost use Rattle.model.specs.Intake.{sealed};
 ghost use Rattle.model.specs.Law.{left_by};
-ghost use Rattle.correctable_run.specs.Slips.{numbers_of};
+ghost use Rattle.run.specs.Slips.{numbers_of};
 ghost use Rattle.table.specs.Intakes.{intake_of};
 
-use correctable_run::intake::Intake;
-use correctable_run::slip::{Slip, Unfiled};
+use run::intake::Intake;
+use run::slip::{Slip, Unfiled};
 use store::Store;
 
 // Shows how the law follows for a sequence of calls from their contracts alone: whatever the intake, the job and the

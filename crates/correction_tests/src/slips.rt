@@ -1,8 +1,8 @@
 use crate::corrected::filed;
 use crate::turns::{adder, takes_right};
-use correctable_run::intake::Intake;
-use correctable_run::run::Run;
-use correctable_run::slip::{Slip, Unfiled};
+use run::intake::Intake;
+use run::run::Run;
+use run::slip::{Slip, Unfiled};
 use model::{Party, Refusal};
 use store::Store;
 use store::word_table::WordTable;

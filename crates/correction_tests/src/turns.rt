@@ -1,5 +1,5 @@
-use correctable_run::intake::Intake;
-use correctable_run::run::Run;
+use run::intake::Intake;
+use run::run::Run;
 use model::{Applied, Party, Rule, Step};
 use store::Store;
 

@@ -1,9 +1,9 @@
 // A desk corrects a cell by hand while a job adds to it, and prints what happens.
 #![tactic(auto)]
 
-use correctable_run::intake::Intake;
-use correctable_run::run::Run;
-use correctable_run::slip::{Slip, Unfiled};
+use run::intake::Intake;
+use run::run::Run;
+use run::slip::{Slip, Unfiled};
 use model::{Applied, Party, Refusal, Step};
 use std::io;
 use store::Store;

@@ -130,3 +130,11 @@ impl Job {
         self.starts
     }
 }
+
+impl Default for Job {
+    ghost is_default = { λ b. job_of b ≡ new_job (step.End ∷ []) };
+
+    fn default() -> Job {
+        Job::blank()
+    }
+}

@@ -9,6 +9,7 @@ pub mod Corrections
 pub mod Settling
 pub mod Closing
 mod Stopping
+mod Uncorrected
 pub mod Whole
 pub mod Rows
 pub mod Admission

@@ -4,7 +4,7 @@ use Rattle.std.specs.List.{slice_get}
 use Rattle.model.specs.Logs.{Log, Ascending, at, foldl}
 use Rattle.model.specs.Replay.{Request, Reads, Writes, Player, Play, Parts, waits, play_step, play_job, plays, replayed}
 use Rattle.model.specs.Rules.{JobState, CorrectionState, State, Event, Started, ReadCell, WroteCell, TookRight, SetCell, Joined}
-use Rattle.model.specs.Calls.{Call, Turn, Settle, OfTurn, settle, after, events_of, answers_of}
+use Rattle.model.specs.Calls.{Call, Turn, Settle, Open, Read, Write, File, Withdraw, OfTurn, settle, after, events_of, answers_of}
 use Rattle.model.specs.Intake.{Intake, stops, last_stops, admission_fault, sealed, closed_cells}
 use Rattle.model.specs.declared.Party.{Party}
 use Rattle.model.specs.declared.Party.TheVariants.{Job, Correction}
@@ -166,6 +166,21 @@ left_by s₀ calls = replayed (parts_of s₀ (events_of s₀ (calls ++ Settle �
 -- A run that is closed after these calls gives back those cells.
 abbrev pub ClosingIsSerial : Type 0
 ClosingIsSerial = (s₀ : State) → Lawful s₀ → (calls : List Call) → closed_cells (after s₀ calls) ≡ left_by s₀ calls
+
+-- Whether one of these calls opens a correction.
+abbrev pub opens_one : List Call → Bool
+opens_one [] = false
+opens_one (Turn j ∷ calls) = opens_one calls
+opens_one (Settle ∷ calls) = opens_one calls
+opens_one (Open ∷ calls) = true
+opens_one (Read slip cell ∷ calls) = opens_one calls
+opens_one (Write slip cell number ∷ calls) = opens_one calls
+opens_one (File slip ∷ calls) = opens_one calls
+opens_one (Withdraw slip ∷ calls) = opens_one calls
+
+-- A run that has no corrections has none until one is opened, whatever else is called.
+abbrev pub NoneUntilOpened : Type 0
+NoneUntilOpened = (s : State) (calls : List Call) → s.corrections ≡ [] → opens_one calls ≡ false → (after s calls).corrections ≡ []
 
 -- Every play of a well-formed program comes to a step that waits or ends, and is over there: a play is never over because
 -- it has gone past the last step or taken too many.

@@ -1,9 +1,10 @@
 #![tactic(auto)]
 
 ghost use Rattle.std.specs.Prelude.{◌≡◌, Some};
-ghost use Rattle.model.specs.Law.{Law, AdmissionSuffices, ClosingIsSerial, PlaysStop};
+ghost use Rattle.model.specs.Law.{Law, AdmissionSuffices, ClosingIsSerial, NoneUntilOpened, PlaysStop};
 ghost use Rattle.model.specs.Names.{rule_name, refusal_number};
 ghost use Rattle.model.specs.ShortRuns.{ShortRuns};
+ghost use Rattle.model.specs.declared.Party.TheVariants.{Job};
 
 use std::fmt;
 
@@ -107,6 +108,15 @@ pub enum Party {
     Correction(u32),
 }
 
+// Fills the places of a commit order that nobody has joined: no job has the number 0.
+impl Default for Party {
+    ghost is_default = { λ party. party ≡ Job 0 };
+
+    fn default() -> Party {
+        Party::Job(0)
+    }
+}
+
 // Why a call changed nothing.
 #[derive(Clone, Copy, Debug, PartialEq)]
 pub enum Refusal {
@@ -203,6 +213,11 @@ pub fn law_of_runs()
 // What closing gives back is what the replay of the commit order leaves.
 pub fn closing_is_serial()
     ensures { ClosingIsSerial }
+{}
+
+// A run that has no corrections has none until one is opened.
+pub fn none_until_opened()
+    ensures { NoneUntilOpened }
 {}
 
 // A replayed job comes to a step that waits or ends.

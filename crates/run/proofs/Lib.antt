@@ -1,4 +1,1 @@
-mod Rostering
-mod Rules
 mod Settling
-mod Tabling

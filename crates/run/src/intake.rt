@@ -1,13 +1,13 @@
 ghost use Rattle.std.specs.Prelude.{◌≡◌, []};
 ghost use Rattle.model.specs.Intake.{admit, sealed};
 ghost use Rattle.model.specs.Law.{Lawful};
-ghost use Rattle.run.specs.Intakes.{intake_of};
+ghost use Rattle.table.specs.Intakes.{intake_of};
 ghost use Rattle.run.specs.Runs.{state};
 
-use crate::roster::Roster;
 use crate::run::Run;
 use model::{Fault, Step};
 use store::Store;
+use table::roster::Roster;
 
 // A run that takes in jobs and no turns. Sealing turns it into a running run.
 pub struct Intake<S: Store> {

@@ -1,9 +1,10 @@
+// Runs of jobs over any store, whose cells people correct by hand between turns.
 #![tactic(auto)]
 
+mod correcting;
+mod counts;
 pub mod intake;
-mod roster;
-mod rosters;
 pub mod run;
-mod table;
-mod tables;
 mod turning;
+
+pub use table::slip;

@@ -1,15 +1,10 @@
-ghost use Rattle.std.specs.Prelude.{◌≡◌, ℕ, suc, ◌<◌, Some, Ok};
+ghost use Rattle.std.specs.Prelude.{◌≡◌};
 ghost use Rattle.model.specs.Calls.{turn, settle};
 ghost use Rattle.model.specs.Intake.{closed_cells, cell_answer, entry_answer, starts_answer};
-ghost use Rattle.model.specs.Logs.{at};
-ghost use Rattle.model.specs.Rules.{JobState};
-ghost use Rattle.model.specs.declared.Stage.TheVariants.{Commit};
 ghost use Rattle.run.specs.Runs.{state};
-ghost use Rattle.run.specs.States.{jobs_in};
 
 use crate::run::Run;
-use job::moves::Move;
-use model::{Applied, Party, Refusal, Rule};
+use model::{Applied, Party, Refusal};
 use store::Store;
 
 // A committing job has at most 24 cells to set, and then frees the right.
@@ -22,50 +17,7 @@ impl<S: Store> Run<S> {
         ensures answer { result ≡ (turn (state S.Store.cells self.old) job).answer }
         ensures loan { S.Store.loan self.new.store ≡ S.Store.loan self.old.store }
     {
-        let Some(i) = self.table.place_of(job) else {
-            return Err(Refusal::NoSuchJob);
-        };
-        match self.table.turn_job(i, &self.store) {
-            Move::NoRule => Ok(None),
-            Move::Applies(applied) => Ok(Some(applied)),
-            Move::Takes => {
-                self.table.take_right(i);
-                Ok(Some(Applied {
-                    rule: Rule::V3,
-                    cell: None,
-                }))
-            }
-            Move::Commits => Ok(Some(self.commit(i))),
-        }
-    }
-
-    // The turn of a job that holds the commit right.
-    fn commit(&mut self, i: usize) -> Applied
-        requires place { i < self.old.table.count }
-        requires stage { (b : JobState) × (at (jobs_in self.old.table) (suc i) ≡ Some b) × (b.stage ≡ Commit) }
-        ensures next { state S.Store.cells self.new ≡ (turn (state S.Store.cells self.old) (suc i)).next }
-        ensures answer { Ok (Some result) ≡ (turn (state S.Store.cells self.old) (suc i)).answer }
-        ensures loan { S.Store.loan self.new.store ≡ S.Store.loan self.old.store }
-    {
-        if let Some(marked) = self.table.other_marked(i) {
-            self.table.unmark(marked);
-            return Applied {
-                rule: Rule::C1,
-                cell: None,
-            };
-        }
-        if let Some(entry) = self.table.take_write(i) {
-            self.store.set(entry.cell, entry.number);
-            return Applied {
-                rule: Rule::C2,
-                cell: Some(entry.cell),
-            };
-        }
-        self.table.finish(i);
-        Applied {
-            rule: Rule::C3,
-            cell: None,
-        }
+        self.table.turn(&mut self.store, job)
     }
 
     // Gives turns to the job that holds the commit right until the right is free.
@@ -75,7 +27,7 @@ impl<S: Store> Run<S> {
     {
         let most = self.table.len() + MOST_COMMIT_TURNS;
         for k in 0..most {
-            let Some(holder) = self.table.right else {
+            let Some(holder) = self.table.right() else {
                 return;
             };
             let _ = self.turn(holder);
@@ -83,13 +35,12 @@ impl<S: Store> Run<S> {
     }
 
     // Settles, ends the run and gives its store back.
-    pub fn close(self) -> S
+    pub fn close(mut self) -> S
         ensures cells { S.Store.cells result ≡ closed_cells (state S.Store.cells self) }
         ensures loan { S.Store.loan result ≡ S.Store.loan self.store }
     {
-        let mut run = self;
-        run.settle();
-        let Run { store, table: _ } = run;
+        self.settle();
+        let Run { store, table: _ } = self;
         store
     }
 
@@ -118,13 +69,13 @@ impl<S: Store> Run<S> {
     pub fn takings(&self) -> u32
         ensures { result ≡ (state S.Store.cells self.now).takings }
     {
-        self.table.takings
+        self.table.takings()
     }
 
     // How often a cell was set.
     pub fn settings(&self) -> u32
         ensures { result ≡ (state S.Store.cells self.now).settings }
     {
-        self.table.settings
+        self.table.settings()
     }
 }

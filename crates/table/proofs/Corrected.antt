@@ -1,11 +1,8 @@
 -- From what the table did to the model's calls with a slip.
-use Rattle.std.proofs.Common.{◌≡◌, ℕ, zero, suc, ◌+◌, ◌%◌, ◌^◌, ◌<◌, ◌≤◌, Bool, true, false, cond, eqb, ◌⊎◌, List, [], ◌∷◌, ◌++◌, map, length, get_or, take, drop, set, Some, None, Ok, Err, Result, sym, refl, ap, ◌∙◌, add-one, arith}
-use lib.Seq.{take-set-lt}
-use Rattle.std.proofs.lemmas.List.Edits.{map_over_more}
-use Rattle.std.proofs.lemmas.List.{length-map, length-take-le, take_more_set, take_all, drop_all, take-map, map-append, map-set, append-nil}
-use Rattle.std.proofs.lemmas.Bool.{ne_eqb}
+use Rattle.std.proofs.Common.{◌≡◌, ℕ, zero, suc, ◌+◌, ◌%◌, ◌^◌, ◌<◌, ◌≤◌, Bool, true, false, cond, List, [], ◌∷◌, ◌++◌, map, length, get_or, set, Some, None, Ok, Err, Result, sym, refl, ap, ◌∙◌, add-one, arith}
+use Rattle.std.proofs.lemmas.List.{length-map, length-set, map-append}
 use Rattle.std.specs.List.{slice_get}
-use Rattle.correction.specs.Calls.{CallOn, Checked}
+use Rattle.correction.specs.Calls.{CallOn, Comes, Checked}
 use Rattle.correction.specs.Corrections.{correction_of}
 use Rattle.correction.specs.declared.correction.Correction.{Correction}
 use Rattle.correction.proofs.Calling.{stays_closed}
@@ -19,23 +16,14 @@ use Rattle.model.specs.declared.Party.TheVariants as party
 use Rattle.model.specs.declared.Refusal.{Refusal}
 use Rattle.model.specs.declared.Refusal.TheVariants.{NotOpen}
 use Rattle.model.proofs.Basics.{by_bool, zero_one, at-map-to}
-use Rattle.table.specs.Corrections.{Finds, RowComes, RowFiles}
+use Rattle.arrayvec.specs.ArrayVec.{with_items}
+use Rattle.arrayvec.proofs.ArrayVecLemmas.{items-with_items}
+use Rattle.model.specs.declared.Party.{Party}
+use Rattle.table.specs.Corrections.{Finds}
 use Rattle.table.specs.Shape.{unfinished, unclosed}
-use Rattle.table.specs.States.{corrections_in, state_of, RowBecomes}
+use Rattle.table.specs.States.{corrections_in, state_of}
 use Rattle.table.specs.declared.table.Table.{Table}
-use Rattle.table.proofs.Tabling.{within, row_at, row-set, no_row_by}
-
--- A slip of another run, or of no correction of this one.
-pub other_run : (C : List ℕ) (t : Table) (slip : SlipNumbers) → (slip.run ≡ t.number → ⊥) → held (state_of C t) slip ≡ None
-other_run C t slip h = rw (ne_eqb slip.run t.number h)
-
-pub no_correction : (C : List ℕ) (t : Table) (slip : SlipNumbers) → (slip.correction ≡ 0) ⊎ (t.opened < slip.correction) → held (state_of C t) slip ≡ None
-no_correction C t slip h =
-    ap (λ o. cond (eqb slip.run t.number) (if_open o) None) (no_row_by correction_of t.corrections t.opened slip.correction h) ∙ either (eqb slip.run t.number)
-  where
-    either : (b : Bool) → cond b (if_open None) None ≡ None
-    either true = refl
-    either false = refl
+use Rattle.table.proofs.Tabling.{row_here, row_means, row-set, row_becomes}
 
 -- How many are open.
 weigh : (c : Correction) (n : ℕ) → cond c.is_open (suc n) n ≡ cond c.is_open 1 0 + n
@@ -46,88 +34,76 @@ unclosed-set [] i c c' e = zero_one (cc)
 unclosed-set (x ∷ xs) zero c c' e = let q : x ≡ c = cc in omega (arith, weigh x (unclosed xs), weigh c' (unclosed xs), ap {B = ℕ} (λ z. cond z.is_open 1 0) q)
 unclosed-set (x ∷ xs) (suc i) c c' e = omega (arith, unclosed-set xs i c c' e, weigh x (unclosed xs), weigh x (unclosed (set xs i c')))
 
-module _ (xs ys : List Correction) (n i : ℕ) (c c' : Correction) (h : i < n) (e : slice_get xs i ≡ Some c) (q : ys ≡ set xs i c') where
-  unclosed-rows : unclosed (take n ys) + cond c.is_open 1 0 ≡ unclosed (take n xs) + cond c'.is_open 1 0
-  unclosed-rows =
-      ap (λ (z : List Correction). unclosed z + cond c.is_open 1 0) (ap (take n) q ∙ take-set-lt n xs i c' h)
-      ∙ unclosed-set (take n xs) i c c' (within xs n i c h e)
+-- The corrections of a table where the one at a place changes.
+abbrev pub with_correction : Table → List Correction → ℕ → Correction → List Correction
+with_correction t xs i c' = (with_items t.corrections (set xs i c')).items
 
-  -- A call opens nothing that was closed.
-  pub unclosed-less : (c.is_open ≡ false → c'.is_open ≡ false) → unclosed (take n ys) ≤ unclosed (take n xs)
-  unclosed-less k =
-      by_bool c.is_open
-      (λ t. omega (arith, unclosed-rows, ap {B = ℕ} (λ z. cond z 1 0) t, at_most_one c'.is_open))
-      (λ t. omega (arith, unclosed-rows, ap {B = ℕ} (λ z. cond z 1 0) t, ap {B = ℕ} (λ z. cond z 1 0) (k t)))
-    where
-      at_most_one : (b : Bool) → cond b 1 0 ≤ 1
-      at_most_one true = omega arith
-      at_most_one false = omega arith
+module _ (t : Table) (xs : List Correction) (i : ℕ) (d : Correction) (shown : xs ≡ t.corrections.items) (within : i < length t.corrections.items) where
+  counts : (c' : Correction) → unclosed (with_correction t xs i c') + cond (get_or xs i d).is_open 1 0 ≡ unclosed t.corrections.items + cond c'.is_open 1 0
+  counts c' =
+      ap (λ (ys : List Correction). unclosed ys + cond (get_or xs i d).is_open 1 0) (row-set correction_of t.corrections xs i d shown within c')
+      ∙ unclosed-set t.corrections.items i (get_or xs i d) c' (row_here correction_of t.corrections xs i d shown within)
+
+  pub as_many_opened : (c' : Correction) → length (with_correction t xs i c') ≡ length t.corrections.items
+  as_many_opened c' = ap length (row-set correction_of t.corrections xs i d shown within c') ∙ length-set t.corrections.items i c'
 
   -- Filing closes one that was open.
-  pub unclosed-fewer : c.is_open ≡ true → c'.is_open ≡ false → unclosed (take n ys) + 1 ≡ unclosed (take n xs)
-  unclosed-fewer t f = omega (arith, unclosed-rows, ap {B = ℕ} (λ z. cond z 1 0) t, ap {B = ℕ} (λ z. cond z 1 0) f)
+  pub one_fewer : (c' : Correction) → (get_or xs i d).is_open ≡ true → c'.is_open ≡ false → unclosed (with_correction t xs i c') + 1 ≡ unclosed t.corrections.items
+  one_fewer c' o f = omega (arith, counts c', ap {B = ℕ} (λ z. cond z 1 0) o, ap {B = ℕ} (λ z. cond z 1 0) f)
 
-module _ {A : Type 0} (call : CallOn A) (cells : List ℕ) (t : Table) (rows : List Correction) (i : ℕ) (r : Result A Refusal) (h : i < t.opened) (x : RowComes call cells t.corrections rows i r) where
-  -- The room in the order after a call of a row.
-  pub room-called : ((s : State) (k : ℕ) → (call s k None).next ≡ s) → t.joined + (unfinished t.jobs + unclosed (take t.opened rows)) ≤ length t.jobs + t.opened
-  room-called n =
-      omega (arith, t.room, unclosed-less t.corrections rows t.opened i x.0 x.1 h x.2 x.3 (stays_closed call cells (correction_of x.0) (correction_of x.1) r n x.4))
+  module _ {A : Type 0} (call : CallOn A) (cells : List ℕ) (c' : Correction) (r : Result A Refusal) (x : Comes call cells (correction_of (get_or xs i d)) (correction_of c') r) where
+    -- A call opens nothing that was closed, so the order has its room after it.
+    pub room-called : ((s : State) (k : ℕ) → (call s k None).next ≡ s) →
+        length t.order.items + (unfinished t.jobs.items + unclosed (with_correction t xs i c')) ≤ length t.jobs.items + length (with_correction t xs i c')
+    room-called n = omega (arith, t.room, as_many_opened c', less)
+      where
+        closed : (get_or xs i d).is_open ≡ false → c'.is_open ≡ false
+        closed = stays_closed call cells (correction_of (get_or xs i d)) (correction_of c') r n x
 
-  -- The run after a call of a row, and its answer.
-  pub called : (with_corrections (state_of cells t) (map correction_of (take t.opened rows)) ≡ (call (state_of cells t) (suc i) (if_open (at (corrections_in t) (suc i)))).next)
-      × (r ≡ (call (state_of cells t) (suc i) (if_open (at (corrections_in t) (suc i)))).answer)
-  called =
-      let s = state_of cells t in
-      let here : at (corrections_in t) (suc i) ≡ Some (correction_of x.0) = row_at correction_of t.corrections t.opened i x.0 h x.2 in
-      let y = x.4 s (suc i) refl here in
-      let e = row-set correction_of t.opened i t.corrections rows x.1 (correction_of x.1) h x.3 refl in (
-        ap (with_corrections s) e ∙ (sym y.0 ∙ sym (ap (λ o. (call s (suc i) (if_open o)).next) here)),
-        sym y.1 ∙ sym (ap (λ o. (call s (suc i) (if_open o)).answer) here),
-      )
+        at_most_one : (b : Bool) → cond b 1 0 ≤ 1
+        at_most_one true = omega arith
+        at_most_one false = omega arith
+
+        less : unclosed (with_correction t xs i c') ≤ unclosed t.corrections.items
+        less =
+            by_bool (get_or xs i d).is_open
+            (λ o. omega (arith, counts c', ap {B = ℕ} (λ z. cond z 1 0) o, at_most_one c'.is_open))
+            (λ o. omega (arith, counts c', ap {B = ℕ} (λ z. cond z 1 0) o, ap {B = ℕ} (λ z. cond z 1 0) (closed o)))
+
+    -- The run after a call of a correction, and its answer.
+    pub called : (with_corrections (state_of cells t) (map correction_of (with_correction t xs i c')) ≡ (call (state_of cells t) (suc i) (if_open (at (corrections_in t) (suc i)))).next)
+        × (r ≡ (call (state_of cells t) (suc i) (if_open (at (corrections_in t) (suc i)))).answer)
+    called =
+        let s = state_of cells t in
+        let here = row_means correction_of t.corrections xs i d shown within in
+        let y = x s (suc i) refl here in
+        let e = row_becomes correction_of t.corrections xs i d shown within c' (correction_of c') refl in (
+          ap (with_corrections s) e ∙ (sym y.0 ∙ sym (ap (λ o. (call s (suc i) (if_open o)).next) here)),
+          sym y.1 ∙ sym (ap (λ o. (call s (suc i) (if_open o)).answer) here),
+        )
 
 -- A slip's call, where its correction stands at place i, and where it has none.
 module _ {A : Type 0} (call : CallOn A) (C : List ℕ) (t : Table) (slip : SlipNumbers) where
-  pub by_place : (s' : State) (r : Result A Refusal) (i : ℕ) → Finds t slip (Some i) →
+  pub by_place : (s' : State) (r : Result A Refusal) (i : ℕ) → Finds t slip (Ok i) →
       (s' ≡ (call (state_of C t) (suc i) (if_open (at (corrections_in t) (suc i)))).next) × (r ≡ (call (state_of C t) (suc i) (if_open (at (corrections_in t) (suc i)))).answer) →
       (s' ≡ (call (state_of C t) slip.correction (held (state_of C t) slip)).next) × (r ≡ (call (state_of C t) slip.correction (held (state_of C t) slip)).answer)
   by_place s' r i p x =
       let e = sym (ap (λ k. call (state_of C t) k (held (state_of C t) slip)) p.1 ∙ ap (call (state_of C t) (suc i)) (p.2 C)) in
       (x.0 ∙ ap (λ o. o.next) e, x.1 ∙ ap (λ o. o.answer) e)
 
-  pub by-none : ((s : State) (k : ℕ) → call s k None ≡ refuse s NotOpen) → Finds t slip None →
-      (state_of C t ≡ (call (state_of C t) slip.correction (held (state_of C t) slip)).next) × (Err NotOpen ≡ (call (state_of C t) slip.correction (held (state_of C t) slip)).answer)
-  by-none n h = let e = sym (ap (call (state_of C t) slip.correction) (h C) ∙ n (state_of C t) slip.correction) in (ap (λ o. o.next) e, ap (λ o. o.answer) e)
+  pub by-none : ((s : State) (k : ℕ) → call s k None ≡ refuse s NotOpen) → (refusal : Refusal) → Finds t slip (Err refusal) → (r : Result A Refusal) → r ≡ Err refusal →
+      (state_of C t ≡ (call (state_of C t) slip.correction (held (state_of C t) slip)).next) × (r ≡ (call (state_of C t) slip.correction (held (state_of C t) slip)).answer)
+  by-none n refusal h r e =
+      let none = sym (ap (call (state_of C t) slip.correction) (h.1 C) ∙ n (state_of C t) slip.correction) in
+      (ap (λ o. o.next) none, (e ∙ ap Err h.0) ∙ ap (λ o. o.answer) none)
 
--- Opening.
-pub opened_is : (t : Table) → t.opened ≤ length t.corrections → length (corrections_in t) ≡ t.opened
-opened_is t h = length-map (take t.opened t.corrections) correction_of ∙ length-take-le t.opened t.corrections h
+-- One correction more.
+pub opened_more : (xs : List Correction) (c : Correction) (f : CorrectionState) → correction_of c ≡ f → map correction_of (xs ++ c ∷ []) ≡ map correction_of xs ++ f ∷ []
+opened_more xs c f e = map-append correction_of xs (c ∷ []) ∙ ap (λ z. map correction_of xs ++ z ∷ []) e
 
-pub opened_more : (xs : List Correction) (n : ℕ) (c : Correction) (f : CorrectionState) → n < length xs → correction_of c ≡ f → map correction_of (take (n + 1) (set xs n c)) ≡ map correction_of (take n xs) ++ f ∷ []
-opened_more xs n c f h e =
-    ap (map correction_of) (take_more_set xs n c h) ∙ (map-append correction_of (take n xs) (c ∷ []) ∙ ap (λ z. map correction_of (take n xs) ++ z ∷ []) e)
-
-pub unclosed_more : (xs : List Correction) (n : ℕ) (c : Correction) → n < length xs → unclosed (take (n + 1) (set xs n c)) ≤ unclosed (take n xs) + 1
-unclosed_more xs n c h = omega (arith, ap unclosed (take_more_set xs n c h), push (take n xs))
-  where
-    push : (ys : List Correction) → unclosed (ys ++ c ∷ []) ≤ unclosed ys + 1
-    push [] = by_bool c.is_open (λ t. rw (t) (omega arith)) (λ t. rw (t) (omega arith))
-    push (y ∷ ys) = omega (arith, push ys, weigh y (unclosed ys), weigh y (unclosed (ys ++ c ∷ [])))
-
--- Marks removed from job after job.
-got : {A : Type 0} (xs : List A) (i : ℕ) (x d : A) → slice_get xs i ≡ Some x → x ≡ get_or xs i d
-got [] i x d e = zero_one (cc)
-got (y ∷ xs) zero x d e = cc
-got (y ∷ xs) (suc i) x d e = got xs i x d e
-
-pub unmarked_more : (states : List JobState) (js js' : List Job) (i : ℕ) → i < length states → RowBecomes unmark js js' i → map job_of js ≡ map unmark (take i states) ++ drop i states → map job_of js' ≡ map unmark (take (i + 1) states) ++ drop (i + 1) states
-unmarked_more states js js' i h x e =
-    ap (map job_of) x.3
-    ∙ (map-set job_of js i x.1
-    ∙ (ap (set (map job_of js) i) x.4
-    ∙ map_over_more unmark states (map job_of js) i (job_of x.0) h e (got (map job_of js) i (job_of x.0) (job_of x.0) (at-map-to job_of js (suc i) x.0 x.2))))
-
-pub unmarked_all : (states : List JobState) (i : ℕ) → length states ≤ i → map unmark (take i states) ++ drop i states ≡ map unmark states
-unmarked_all states i h = rw (take_all i states h, drop_all i states h) (append-nil (map unmark states))
+pub unclosed_more : (xs : List Correction) (c : Correction) → unclosed (xs ++ c ∷ []) ≤ unclosed xs + 1
+unclosed_more [] c = by_bool c.is_open (λ t. rw (t) (omega arith)) (λ t. rw (t) (omega arith))
+unclosed_more (y ∷ ys) c = omega (arith, unclosed_more ys c, weigh y (unclosed ys), weigh y (unclosed (ys ++ c ∷ [])))
 
 -- Jobs that lost their marks are as much done as before.
 abbrev undone : List JobState → ℕ
@@ -142,81 +118,76 @@ undone_unmarked : (bs : List JobState) → undone (map unmark bs) ≡ undone bs
 undone_unmarked [] = refl
 undone_unmarked (b ∷ bs) = ap (λ (n : ℕ). cond (is_done b.stage) n (suc n)) (undone_unmarked bs)
 
-module _ (js js' : List Job) (e : map job_of js' ≡ map unmark (map job_of js)) where
-  pub unfinished-unmarked : unfinished js' ≡ unfinished js
-  unfinished-unmarked = undone_is js' ∙ (ap undone e ∙ (undone_unmarked (map job_of js) ∙ sym (undone_is js)))
+-- The jobs of a table that all lost their marks.
+module _ (t : Table) (js js' : List Job) (shown : js ≡ t.jobs.items) (e : map job_of js' ≡ map unmark (map job_of js)) where
+  length-unmarked : length js' ≡ length t.jobs.items
+  length-unmarked = sym (length-map js' job_of) ∙ (ap length e ∙ (length-map (map job_of js) unmark ∙ (length-map js job_of ∙ ap length shown)))
 
-  pub length-unmarked : length js' ≡ length js
-  length-unmarked = sym (length-map js' job_of) ∙ (ap length e ∙ (length-map (map job_of js) unmark ∙ length-map js job_of))
+  pub unmarked : (with_items t.jobs js').items ≡ js'
+  unmarked = items-with_items t.jobs js' length-unmarked
 
-  pub take-unmarked : (n : ℕ) → map job_of (take n js') ≡ map unmark (map job_of (take n js))
-  take-unmarked n = sym (take-map job_of n js') ∙ (ap (take n) e ∙ (take-map unmark n (map job_of js) ∙ ap (map unmark) (take-map job_of n js)))
+  pub jobs-unmarked : map job_of (with_items t.jobs js').items ≡ map unmark (map job_of t.jobs.items)
+  jobs-unmarked = ap (map job_of) unmarked ∙ (e ∙ ap (λ xs. map unmark (map job_of xs)) shown)
+
+  pub as_many-unmarked : length (with_items t.jobs js').items ≡ length t.jobs.items
+  as_many-unmarked = ap length unmarked ∙ length-unmarked
+
+  pub unfinished-unmarked : unfinished (with_items t.jobs js').items ≡ unfinished t.jobs.items
+  unfinished-unmarked = undone_is (with_items t.jobs js').items ∙ (ap undone jobs-unmarked ∙ (undone_unmarked (map job_of t.jobs.items) ∙ sym (undone_is t.jobs.items)))
 
 some_same : {A : Type 0} {x y : A} → Some x ≡ Some y → x ≡ y
 some_same e = cc
 
--- Filing the correction c at place i, over cells C.
-module _ (C : List ℕ) (t : Table) (i : ℕ) (c : Correction) (h : i < t.opened) (e : slice_get t.corrections i ≡ Some c) where
-  filing-of : file_by (state_of C t) (suc i) (if_open (at (corrections_in t) (suc i))) ≡ file_by (state_of C t) (suc i) (if_open (Some (correction_of c)))
-  filing-of = ap (λ o. file_by (state_of C t) (suc i) (if_open o)) (row_at correction_of t.corrections t.opened i c h e)
+-- Filing the correction at place i, over cells C: what was looked at, and what is changed.
+module _ (C : List ℕ) (t : Table) (i : ℕ) (x : Correction) (here : slice_get t.corrections.items i ≡ Some x) where
+  filing-of : file_by (state_of C t) (suc i) (if_open (at (corrections_in t) (suc i))) ≡ file_by (state_of C t) (suc i) (if_open (Some (correction_of x)))
+  filing-of = ap (λ o. file_by (state_of C t) (suc i) (if_open o)) (at-map-to correction_of t.corrections.items (suc i) x here)
 
-  pub file-refused : (refusal : Refusal) → Checked C t.right (correction_of c) (Err refusal) → file_by (state_of C t) (suc i) (if_open (at (corrections_in t) (suc i))) ≡ refuse (state_of C t) refusal
-  file-refused refusal x = filing-of ∙ x (state_of C t) (suc i) refl refl
+  pub file-refused : (refusal : Refusal) → Checked C t.right (correction_of x) (Err refusal) → file_by (state_of C t) (suc i) (if_open (at (corrections_in t) (suc i))) ≡ refuse (state_of C t) refusal
+  file-refused refusal r = filing-of ∙ r (state_of C t) (suc i) refl refl
 
-  module _ (ok : Checked C t.right (correction_of c) (Ok tt)) (D : List ℕ) (rows : List Correction) (n : ℕ) (x : RowFiles C D t.corrections rows i n) where
-    same : x.0 ≡ c
-    same = some_same (sym x.2 ∙ e)
+  module _ (ok : Checked C t.right (correction_of x) (Ok tt)) (ys : List Correction) (d c' : Correction) (lent : ys ≡ t.corrections.items) (within : i < length t.corrections.items)
+      (closed : correction_of c' ≡ correction false (correction_of (get_or ys i d)).reads (correction_of (get_or ys i d)).writes) where
+    same : get_or ys i d ≡ x
+    same = some_same (sym (row_here correction_of t.corrections ys i d lent within) ∙ here)
 
-    pub one_fewer : unclosed (take t.opened rows) + 1 ≡ unclosed (take t.opened t.corrections)
-    one_fewer =
-        unclosed-fewer t.corrections rows t.opened i x.0 x.1 h x.2 x.3 (ap (λ z. (correction_of z).is_open) same ∙ ok.0) (ap (λ z. z.is_open) x.4)
+    pub filed_fewer : unclosed (with_correction t ys i c') + 1 ≡ unclosed t.corrections.items
+    filed_fewer = one_fewer t ys i d lent within c' (ap (λ c. c.is_open) same ∙ ok.0) (ap (λ f. f.is_open) closed)
 
-    pub room-before : t.joined < length t.jobs + t.opened
-    room-before = omega (arith, one_fewer, t.room)
-
-    module _ (jobs : List Job) (unmarked : map job_of jobs ≡ map unmark (map job_of t.jobs)) where
-      -- The room in the order before this filing joins it, and after.
-      pub room-same : t.joined + (unfinished jobs + unclosed (take t.opened rows)) ≤ length jobs + t.opened
-      room-same = omega (arith, one_fewer, t.room, unfinished-unmarked t.jobs jobs unmarked, length-unmarked t.jobs jobs unmarked)
-
-      pub room_joined : (t.joined + 1) + (unfinished jobs + unclosed (take t.opened rows)) ≤ length jobs + t.opened
-      room_joined = omega (arith, one_fewer, t.room, unfinished-unmarked t.jobs jobs unmarked, length-unmarked t.jobs jobs unmarked)
-
-      -- The run then, and the answer.
-      pub file-accepted : t.joined < length t.order →
-          (record {
+    -- The run then, and the answer.
+    pub file-accepted : (D : List ℕ) (n : ℕ) (jobs : List Job) (order : List Party) → D ≡ set_all (correction_of (get_or ys i d)).writes C → n ≡ length (correction_of (get_or ys i d)).writes →
+        map job_of jobs ≡ map unmark (map job_of t.jobs.items) → order ≡ t.order.items ++ party.Correction (i + 1) ∷ [] →
+        (record {
+          number = t.number;
+          cells = D;
+          jobs = map job_of jobs;
+          corrections = map correction_of (with_correction t ys i c');
+          right = t.right;
+          order = order;
+          takings = counted t.takings;
+          settings = (t.settings + n) % 2 ^ 32;
+        } ≡ (file_by (state_of C t) (suc i) (if_open (at (corrections_in t) (suc i)))).next)
+        × (Ok tt ≡ (file_by (state_of C t) (suc i) (if_open (at (corrections_in t) (suc i)))).answer)
+    file-accepted D n jobs order after count marks joined =
+        let s = state_of C t in
+        let done = sym (filing-of ∙ ok.2 s (suc i) refl refl) in
+        let shut : CorrectionState → CorrectionState = λ f. correction false f.reads f.writes in
+        let cells = after ∙ ap (λ c. set_all (correction_of c).writes C) same in
+        let corrections =
+        row_becomes correction_of t.corrections ys i d lent within c' (shut (correction_of (get_or ys i d))) closed
+        ∙ ap (λ c. set (corrections_in t) i (shut (correction_of c))) same in
+        let places = joined ∙ ap (λ (m : ℕ). t.order.items ++ party.Correction m ∷ []) (add-one i) in
+        let settings = ap (λ (m : ℕ). (t.settings + m) % 2 ^ 32) (count ∙ ap (λ c. length (correction_of c).writes) same) in (
+          (λ k. record {
             number = t.number;
-            cells = D;
-            jobs = map job_of (take t.count jobs);
-            corrections = map correction_of (take t.opened rows);
-            right = t.right;
-            order = take (t.joined + 1) (set t.order t.joined (party.Correction (i + 1)));
+            cells = cells k;
+            jobs = marks k;
+            corrections = corrections k;
+            right = ok.1 k;
+            order = places k;
             takings = counted t.takings;
-            settings = (t.settings + n) % 2 ^ 32;
-          } ≡ (file_by (state_of C t) (suc i) (if_open (at (corrections_in t) (suc i)))).next)
-          × (Ok tt ≡ (file_by (state_of C t) (suc i) (if_open (at (corrections_in t) (suc i)))).answer)
-      file-accepted room =
-          let s = state_of C t in
-          let done = sym (filing-of ∙ ok.2 s (suc i) refl refl) in
-          let closed : CorrectionState → CorrectionState = λ f. correction false f.reads f.writes in
-          let cells = x.5 ∙ ap (λ z. set_all (correction_of z).writes C) same in
-          let corrections =
-          row-set correction_of t.opened i t.corrections rows x.1 (closed (correction_of x.0)) h x.3 x.4
-          ∙ ap (λ z. set (corrections_in t) i (closed (correction_of z))) same in
-          let order =
-          take_more_set t.order t.joined (party.Correction (i + 1)) room
-          ∙ ap (λ (m : ℕ). take t.joined t.order ++ party.Correction m ∷ []) (add-one i) in
-          let settings = ap (λ (m : ℕ). (t.settings + m) % 2 ^ 32) (x.6 ∙ ap (λ z. length (correction_of z).writes) same) in (
-            (λ k. record {
-              number = t.number;
-              cells = cells k;
-              jobs = take-unmarked t.jobs jobs unmarked t.count k;
-              corrections = corrections k;
-              right = ok.1 k;
-              order = order k;
-              takings = counted t.takings;
-              settings = settings k;
-            })
-                ∙ ap (λ o. o.next) done,
-            ap (λ o. o.answer) done,
-          )
+            settings = settings k;
+          })
+              ∙ ap (λ o. o.next) done,
+          ap (λ o. o.answer) done,
+        )

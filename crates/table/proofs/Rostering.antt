@@ -1,7 +1,6 @@
 -- What an intake's roster holds, and what becomes of it.
-use Rattle.std.proofs.Common.{◌≡◌, ℕ, ◌+◌, ◌-◌, ◌^◌, ◌<◌, true, not, eqb, leb, List, [], ◌∷◌, ◌++◌, map, length, take, set, None, sym, refl, ap, ◌∙◌, subst, arith}
-use native.Mathlib.Nat.{sub-zero}
-use Rattle.std.proofs.lemmas.List.{length-map, length-take, take_more_set}
+use Rattle.std.proofs.Common.{◌≡◌, ℕ, ◌^◌, ◌<◌, true, not, eqb, leb, List, [], ◌∷◌, ◌++◌, map, None, refl, ap, ◌∙◌, subst, arith}
+use Rattle.std.proofs.lemmas.List.{length-map, map-append}
 use Rattle.std.proofs.lemmas.Bool.{and_parts, and_from, eqb-true, leb-false, not-true}
 use Rattle.job.specs.Jobs.{job_of}
 use Rattle.job.specs.declared.job.Job.{Job}
@@ -72,21 +71,11 @@ all_new_push (x ∷ bs) b e n =
     let h = and_parts (is_new (job_of x)) (all_new bs) e in
     and_from (is_new (job_of x)) (all_new (bs ++ b ∷ [])) h.0 (all_new_push bs b h.1 n)
 
-map_push : {A B : Type 0} (f : A → B) (xs : List A) (x : A) → map f (xs ++ x ∷ []) ≡ map f xs ++ f x ∷ []
-map_push f [] x = refl
-map_push f (y ∷ xs) x = ap (λ zs. f y ∷ zs) (map_push f xs x)
+pub still_new : (jobs : List Job) (b : Job) (steps : List Step) → job_of b ≡ new_job steps → all_new jobs ≡ true → all_new (jobs ++ b ∷ []) ≡ true
+still_new jobs b steps e a = all_new_push jobs b a (ap is_new e)
 
-pub still_new : (jobs : List Job) (n : ℕ) (b : Job) (steps : List Step) → n < length jobs → job_of b ≡ new_job steps → all_new (take n jobs) ≡ true → all_new (take (n + 1) (set jobs n b)) ≡ true
-still_new jobs n b steps h e a = ap all_new (take_more_set jobs n b h) ∙ all_new_push (take n jobs) b a (ap is_new e)
-
-pub programs-push : (jobs : List Job) (n : ℕ) (b : Job) (steps : List Step) → n < length jobs → job_of b ≡ new_job steps →
-    map program_of (take (n + 1) (set jobs n b)) ≡ map program_of (take n jobs) ++ steps ∷ []
-programs-push jobs n b steps h e =
-    ap (map program_of) (take_more_set jobs n b h) ∙ (map_push program_of (take n jobs) b ∙ ap (λ z. map program_of (take n jobs) ++ z ∷ []) (ap (λ z. z.program) e))
-
--- How many were admitted.
-pub admitted_is : (jobs : List Job) (n : ℕ) → length (take (n - 0) jobs) ≡ length (map program_of (take n jobs))
-admitted_is jobs n = ap (λ (m : ℕ). length (take m jobs)) (sub-zero n) ∙ sym (length-map (take n jobs) program_of)
+pub programs-push : (jobs : List Job) (b : Job) (steps : List Step) → job_of b ≡ new_job steps → map program_of (jobs ++ b ∷ []) ≡ map program_of jobs ++ steps ∷ []
+programs-push jobs b steps e = map-append program_of jobs (b ∷ []) ∙ ap (λ z. map program_of jobs ++ z.program ∷ []) e
 
 pub room_for : (jobs count : ℕ) (steps : List Step) → admission_fault jobs count steps ≡ None → jobs < 16
 room_for jobs count steps e = omega (arith, leb-false 16 jobs (not_bad (leb 16 jobs) (fault TooManyJobs 0 0) (neither (fault_if (leb 16 jobs) (fault TooManyJobs 0 0)) _ e).0))
@@ -95,8 +84,8 @@ room_for jobs count steps e = omega (arith, leb-false 16 jobs (not_bad (leb 16 j
 pub well_formed_lem : (C : List ℕ) (r : Roster) → Admissible (intake_of C r)
 well_formed_lem C r =
     record {
-      few_jobs = omega (arith, r.few, length-map (take r.count r.jobs) program_of, length-take r.count r.jobs);
+      few_jobs = omega (arith, length-map r.jobs.items program_of, r.few_jobs);
       well_formed = λ j program e.
-          let x = at_map program_of (take r.count r.jobs) j program e in
+          let x = at_map program_of r.jobs.items j program e in
           subst WellFormed x.2 (suffices 0 (2 ^ 64) (program_of x.0) (passes (program_of x.0) x.0.runnable));
     }

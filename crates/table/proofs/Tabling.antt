@@ -1,9 +1,11 @@
 -- What changes of a table's rows mean.
-use Rattle.std.proofs.Common.{◌≡◌, ℕ, zero, suc, ◌+◌, ◌-◌, ◌<◌, ◌≤◌, true, false, cond, ◌⊎◌, List, [], ◌∷◌, map, length, get_or, take, drop, set, Some, None, Option, sym, refl, ap, ◌∙◌, inl, inr, arith}
-use lib.Seq.{take-set-lt}
-use Rattle.std.proofs.lemmas.List.{map-set, length-set, length-map, length-take, drop_all, drop-drop}
+use Rattle.std.proofs.Common.{◌≡◌, ℕ, zero, suc, ◌+◌, ◌<◌, ◌≤◌, true, false, cond, List, [], ◌∷◌, map, length, get_or, drop, set, Some, None, Option, sym, refl, ap, ◌∙◌, arith}
+use Rattle.std.proofs.lemmas.List.{map-set, length-set, drop_all, drop-drop}
 use Rattle.std.proofs.lemmas.Bool.{eq-eqb, ne_eqb}
+use Rattle.std.proofs.lemmas.Option.{slice_get-get_or}
 use Rattle.std.specs.List.{slice_get}
+use Rattle.arrayvec.specs.ArrayVec.{ArrayVec, with_items}
+use Rattle.arrayvec.proofs.ArrayVecLemmas.{items-with_items}
 use Rattle.job.specs.Jobs.{job_of}
 use Rattle.job.specs.Moves.{Comes, WriteOf}
 use Rattle.job.specs.Shape.{is_done}
@@ -14,57 +16,25 @@ use Rattle.model.specs.Logs.{at}
 use Rattle.model.specs.declared.Entry.{Entry}
 use Rattle.model.specs.Rules.{JobState, State, with_job, other_marked}
 use Rattle.model.proofs.Basics.{by_bool, by_cond, zero_one, put-again, at-map-to}
-use Rattle.table.specs.Shape.{unfinished}
+use Rattle.table.specs.Shape.{unfinished, unclosed}
+use Rattle.table.specs.declared.table.Table.{Table}
 
--- The first rows of a table, and what they mean.
-pub within : {A : Type 0} (xs : List A) (n i : ℕ) (x : A) → i < n → slice_get xs i ≡ Some x → slice_get (take n xs) i ≡ Some x
-within [] n i x h e = zero_one (cc)
-within (y ∷ xs) zero i x h e = absurd (omega arith)
-within (y ∷ xs) (suc n) zero x h e = e
-within (y ∷ xs) (suc n) (suc i) x h e = within xs n i x (omega arith) e
+-- A row that is read and written through the slice of its vector, and what it means.
+module _ {T U : Type 0} (f : T → U) (v : ArrayVec T) (xs : List T) (i : ℕ) (d : T) (shown : xs ≡ v.items) (within : i < length v.items) where
+  pub row_here : slice_get v.items i ≡ Some (get_or xs i d)
+  row_here = slice_get-get_or v.items i d within ∙ ap (λ ys. Some (get_or ys i d)) (sym shown)
 
-module _ {A B : Type 0} (f : A → B) where
-  pub row_at : (xs : List A) (n i : ℕ) (x : A) → i < n → slice_get xs i ≡ Some x → slice_get (map f (take n xs)) i ≡ Some (f x)
-  row_at xs n i x h e = at-map-to f (take n xs) (suc i) x (within xs n i x h e)
+  pub row_read : d ≡ get_or xs i d → slice_get v.items i ≡ Some d
+  row_read read = row_here ∙ ap Some (sym read)
 
-  pub row-set : (n i : ℕ) (xs ys : List A) (y : A) (z : B) → i < n → ys ≡ set xs i y → f y ≡ z → map f (take n ys) ≡ set (map f (take n xs)) i z
-  row-set n i xs ys y z h q e =
-      ap (λ r. map f (take n r)) q ∙ (ap (map f) (take-set-lt n xs i y h) ∙ (map-set f (take n xs) i y ∙ ap (λ w. set (map f (take n xs)) i w) e))
+  pub row_means : slice_get (map f v.items) i ≡ Some (f (get_or xs i d))
+  row_means = at-map-to f v.items (suc i) (get_or xs i d) row_here
 
-pub none_from : {A : Type 0} (xs : List A) (n i : ℕ) → n ≤ i → slice_get (take n xs) i ≡ None
-none_from [] zero i h = refl
-none_from [] (suc n) i h = refl
-none_from (x ∷ xs) zero i h = refl
-none_from (x ∷ xs) (suc n) zero h = absurd (omega arith)
-none_from (x ∷ xs) (suc n) (suc i) h = none_from xs n i (omega arith)
+  pub row-set : (y : T) → (with_items v (set xs i y)).items ≡ set v.items i y
+  row-set y = items-with_items v (set xs i y) (length-set xs i y ∙ ap length shown) ∙ ap (λ ys. set ys i y) shown
 
--- By number, from 1: nothing stands before the first or after the last.
-pub none_by : {A : Type 0} (xs : List A) (n j : ℕ) → (j ≡ 0) ⊎ (n < j) → at (take n xs) j ≡ None
-none_by xs n zero h = refl
-none_by xs n (suc i) (inl e) = absurd (omega arith)
-none_by xs n (suc i) (inr l) = none_from xs n i (omega arith)
-
-nth_take : {A : Type 0} (xs : List A) (n i : ℕ) (d : A) → i < n → i < length xs → slice_get (take n xs) i ≡ Some (get_or xs i d)
-nth_take [] n i d h l = absurd (omega arith)
-nth_take (x ∷ xs) zero i d h l = absurd (omega arith)
-nth_take (x ∷ xs) (suc n) zero d h l = refl
-nth_take (x ∷ xs) (suc n) (suc i) d h l = nth_take xs n i d (omega arith) (omega arith)
-
-pub some_by : {A : Type 0} (xs : List A) (n j : ℕ) (d : A) → 0 < j → j ≤ n → j ≤ length xs → at (take n xs) j ≡ Some (get_or xs (j - 1) d)
-some_by xs n zero d h l m = absurd (omega arith)
-some_by xs n (suc i) d h l m = let q : suc i - 1 ≡ i = omega arith in nth_take xs n i d (omega arith) (omega arith) ∙ ap (λ (k : ℕ). Some (get_or xs k d)) (sym q)
-
-nth_map_none : {A B : Type 0} (f : A → B) (xs : List A) (i : ℕ) → slice_get xs i ≡ None → slice_get (map f xs) i ≡ None
-nth_map_none f [] i e = refl
-nth_map_none f (x ∷ xs) zero e = zero_one (cc)
-nth_map_none f (x ∷ xs) (suc i) e = nth_map_none f xs i e
-
-at-map_none : {A B : Type 0} (f : A → B) (xs : List A) (j : ℕ) → at xs j ≡ None → at (map f xs) j ≡ None
-at-map_none f xs zero e = refl
-at-map_none f xs (suc i) e = nth_map_none f xs i e
-
-pub no_row_by : {A B : Type 0} (f : A → B) (xs : List A) (n j : ℕ) → (j ≡ 0) ⊎ (n < j) → at (map f (take n xs)) j ≡ None
-no_row_by f xs n j h = at-map_none f (take n xs) j (none_by xs n j h)
+  pub row_becomes : (y : T) (z : U) → f y ≡ z → map f (with_items v (set xs i y)).items ≡ set (map f v.items) i z
+  row_becomes y z e = ap (map f) (row-set y) ∙ (map-set f v.items i y ∙ ap (set (map f v.items) i) e)
 
 -- How many have not committed.
 pub unfinished_le : (xs : List Job) → unfinished xs ≤ length xs
@@ -74,10 +44,15 @@ unfinished_le (b ∷ xs) = let ih = unfinished_le xs in by_cond (λ (n : ℕ). n
 weigh : (b : Job) (n : ℕ) → cond (is_done b.stage) n (suc n) ≡ cond (is_done b.stage) 0 1 + n
 weigh b n = by_bool (is_done b.stage) (λ t. rw (t) (omega arith)) (λ t. rw (t) (omega arith))
 
-pub unfinished-set : (xs : List Job) (i : ℕ) (b b' : Job) → slice_get xs i ≡ Some b → unfinished (set xs i b') + cond (is_done b.stage) 0 1 ≡ unfinished xs + cond (is_done b'.stage) 0 1
+unfinished-set : (xs : List Job) (i : ℕ) (b b' : Job) → slice_get xs i ≡ Some b → unfinished (set xs i b') + cond (is_done b.stage) 0 1 ≡ unfinished xs + cond (is_done b'.stage) 0 1
 unfinished-set [] i b b' e = zero_one (cc)
 unfinished-set (x ∷ xs) zero b b' e = let q : x ≡ b = cc in omega (arith, weigh x (unfinished xs), weigh b' (unfinished xs), ap {B = ℕ} (λ z. cond (is_done z.stage) 0 1) q)
 unfinished-set (x ∷ xs) (suc i) b b' e = omega (arith, unfinished-set xs i b b' e, weigh x (unfinished xs), weigh x (unfinished (set xs i b')))
+
+some-unfinished : (xs : List Job) (i : ℕ) (b : Job) → slice_get xs i ≡ Some b → is_done b.stage ≡ false → 0 < unfinished xs
+some-unfinished [] i b e f = zero_one (cc)
+some-unfinished (x ∷ xs) zero b e f = let q : x ≡ b = cc in omega (arith, weigh x (unfinished xs), ap {B = ℕ} (λ z. cond (is_done z.stage) 0 1) q, ap {B = ℕ} (λ z. cond z 0 1) f)
+some-unfinished (x ∷ xs) (suc i) b e f = omega (arith, weigh x (unfinished xs), some-unfinished xs i b e f)
 
 -- A job put where it was.
 pub with_same : (s : State) (i : ℕ) (b : JobState) → at s.jobs (suc i) ≡ Some b → with_job s (suc i) b ≡ s
@@ -90,14 +65,37 @@ same_done s j b b' (Applies a) x = x.2
 same_done s j b b' Takes x = x.2
 same_done s j b b' Commits x = ap (λ z. is_done z.stage) x.0
 
--- The room in the order, where a job changed that is as much or as little done as before.
-pub room_kept : (joined m n i : ℕ) (xs ys : List Job) (b b' : Job) → slice_get xs i ≡ Some b → ys ≡ set xs i b' → is_done b'.stage ≡ is_done b.stage → joined + (unfinished xs + m) ≤ length xs + n → joined + (unfinished ys + m) ≤ length ys + n
-room_kept joined m n i xs ys b b' e q d h =
-    omega (arith, unfinished-set xs i b b' e, ap unfinished q, ap length q, length-set xs i b', ap {B = ℕ} (λ z. cond z 0 1) d)
+-- A job that gave up an entry of its write log is as much done as before.
+pub done_write : (b b' : Job) (r : Option Entry) → WriteOf (job_of b) (job_of b') r → is_done b'.stage ≡ is_done b.stage
+done_write b b' None x = ap (λ z. is_done z.stage) x.1
+done_write b b' (Some e) x = ap (λ z. is_done z.stage) x.2
 
--- A job that a change of its own row left as much or as little done.
-pub done_as : (b b' : Job) (c : JobState) → job_of b' ≡ c → is_done c.stage ≡ is_done b.stage → is_done b'.stage ≡ is_done b.stage
-done_as b b' c e d = ap (λ z. is_done z.stage) e ∙ d
+-- The jobs of a table where the one at a place changes.
+abbrev pub with_row : Table → List Job → ℕ → Job → List Job
+with_row t xs i b' = (with_items t.jobs (set xs i b')).items
+
+-- The room in the order then: a job that is as done as before keeps it, and one that is not done yet has a place left,
+-- which it takes as it is done.
+module _ (t : Table) (xs : List Job) (i : ℕ) (d : Job) (shown : xs ≡ t.jobs.items) (within : i < length t.jobs.items) where
+  counts : (b' : Job) → unfinished (with_row t xs i b') + cond (is_done (get_or xs i d).stage) 0 1 ≡ unfinished t.jobs.items + cond (is_done b'.stage) 0 1
+  counts b' =
+      ap (λ (ys : List Job). unfinished ys + cond (is_done (get_or xs i d).stage) 0 1) (row-set job_of t.jobs xs i d shown within b')
+      ∙ unfinished-set t.jobs.items i (get_or xs i d) b' (row_here job_of t.jobs xs i d shown within)
+
+  pub as_many : (b' : Job) → length (with_row t xs i b') ≡ length t.jobs.items
+  as_many b' = ap length (row-set job_of t.jobs xs i d shown within b') ∙ length-set t.jobs.items i b'
+
+  pub room_kept : (b' : Job) → is_done b'.stage ≡ is_done (get_or xs i d).stage →
+      length t.order.items + (unfinished (with_row t xs i b') + unclosed t.corrections.items) ≤ length (with_row t xs i b') + length t.corrections.items
+  room_kept b' e = omega (arith, t.room, counts b', as_many b', ap {B = ℕ} (λ z. cond z 0 1) e)
+
+  module _ (not_yet : is_done (get_or xs i d).stage ≡ false) where
+    pub room_left : length t.order.items < length t.jobs.items + length t.corrections.items
+    room_left = omega (arith, t.room, some-unfinished t.jobs.items i (get_or xs i d) (row_here job_of t.jobs xs i d shown within) not_yet)
+
+    pub room_used : (b' : Job) → is_done b'.stage ≡ true →
+        (length t.order.items + 1) + (unfinished (with_row t xs i b') + unclosed t.corrections.items) ≤ length (with_row t xs i b') + length t.corrections.items
+    room_used b' e = omega (arith, t.room, counts b', as_many b', ap {B = ℕ} (λ z. cond z 0 1) e, ap {B = ℕ} (λ z. cond z 0 1) not_yet)
 
 -- Other marked jobs, from place k on.
 drop_nth : (bs : List JobState) (k : ℕ) (b : JobState) → slice_get bs k ≡ Some b → drop k bs ≡ b ∷ drop (suc k) bs
@@ -122,25 +120,3 @@ other_self j k bs q =
 
 pub other_end : (j k : ℕ) (bs : List JobState) → length bs ≤ k → other_marked j (suc k) (drop k bs) ≡ None
 other_end j k bs h = rw (drop_all k bs h)
-
-pub jobs_few : (n : ℕ) (xs : List Job) → length (map job_of (take n xs)) ≤ n
-jobs_few n xs = omega (arith, length-map (take n xs) job_of, length-take n xs)
-
--- A job that gave up an entry of its write log is as much done as before.
-pub done_write : (b b' : Job) (r : Option Entry) → WriteOf (job_of b) (job_of b') r → is_done b'.stage ≡ is_done b.stage
-done_write b b' None x = ap (λ z. is_done z.stage) x.1
-done_write b b' (Some e) x = ap (λ z. is_done z.stage) x.2
-
--- While a job is not done, there is room in the order.
-pub room_left : (joined m n i : ℕ) (xs : List Job) (b : Job) → slice_get xs i ≡ Some b → is_done b.stage ≡ false → joined + (unfinished xs + m) ≤ length xs + n → joined < length xs + n
-room_left joined m n i xs b e f h = omega (arith, some-unfinished xs i b e f)
-  where
-    some-unfinished : (xs : List Job) (i : ℕ) (b : Job) → slice_get xs i ≡ Some b → is_done b.stage ≡ false → 0 < unfinished xs
-    some-unfinished [] i b e f = zero_one (cc)
-    some-unfinished (x ∷ xs) zero b e f = let q : x ≡ b = cc in omega (arith, weigh x (unfinished xs), ap {B = ℕ} (λ z. cond (is_done z.stage) 0 1) q, ap {B = ℕ} (λ z. cond z 0 1) f)
-    some-unfinished (x ∷ xs) (suc i) b e f = omega (arith, weigh x (unfinished xs), some-unfinished xs i b e f)
-
--- The room in the order, where a job is done that was not.
-pub room_used : (joined m n i : ℕ) (xs ys : List Job) (b b' : Job) → slice_get xs i ≡ Some b → ys ≡ set xs i b' → is_done b.stage ≡ false → is_done b'.stage ≡ true → joined + (unfinished xs + m) ≤ length xs + n → (joined + 1) + (unfinished ys + m) ≤ length ys + n
-room_used joined m n i xs ys b b' e q f d h =
-    omega (arith, unfinished-set xs i b b' e, ap unfinished q, ap length q, length-set xs i b', ap {B = ℕ} (λ z. cond z 0 1) d, ap {B = ℕ} (λ z. cond z 0 1) f)

@@ -1,6 +1,8 @@
-ghost use Rattle.std.specs.Prelude.{◌≡◌, ◌≤◌, true, take};
+ghost use Rattle.std.specs.Prelude.{◌≡◌, ◌≤◌, true};
+ghost use Rattle.arrayvec.specs.ArrayVec.{array_vec_len};
 ghost use Rattle.table.specs.Shape.{all_new};
 
+use arrayvec::ArrayVec;
 use job::admission::MOST_JOBS;
 use job::job::Job;
 
@@ -8,9 +10,7 @@ use job::job::Job;
 #[derive(Drop)]
 pub struct Roster {
     pub(crate) number: u32,
-    // The first `count` places are of admitted jobs.
-    pub(crate) jobs: [Job; MOST_JOBS],
-    pub(crate) count: usize,
-    ghost few: { count ≤ 16 },
-    ghost unstarted: { all_new (take count jobs) ≡ true },
+    pub(crate) jobs: ArrayVec<Job, MOST_JOBS>,
+    ghost few_jobs: { array_vec_len jobs ≤ 16 },
+    ghost unstarted: { all_new jobs.items ≡ true },
 }

@@ -4,11 +4,10 @@ ghost use Rattle.table.specs.Intakes.{intake_of};
 ghost use Rattle.table.specs.States.{state_of};
 
 use crate::roster::Roster;
-use crate::table::{MOST_COMMITS, Table};
-use correction::correction::{Correction, MOST_CORRECTIONS};
-use job::admission::MOST_JOBS;
+use crate::table::Table;
+use arrayvec::ArrayVec;
 use job::job::Job;
-use model::{Fault, Party, Step};
+use model::{Fault, Step};
 
 impl Roster {
     pub fn new(number: u32) -> Roster
@@ -16,8 +15,7 @@ impl Roster {
     {
         Roster {
             number,
-            jobs: [Job::blank(); MOST_JOBS],
-            count: 0,
+            jobs: ArrayVec::new(),
         }
     }
 
@@ -26,34 +24,21 @@ impl Roster {
         ensures after { (C : List ℕ) → intake_of C self.new ≡ (admit_unless (intake_of C self.old) steps.now (admission_fault (length (intake_of C self.old).programs) cells steps.now)).0 }
         ensures answer { (C : List ℕ) → result ≡ (admit_unless (intake_of C self.old) steps.now (admission_fault (length (intake_of C self.old).programs) cells steps.now)).1 }
     {
-        // The slice shows the checker that the array has so many jobs.
-        let admitted = self.jobs[0..self.count].len();
-        match Job::admit(admitted, cells, steps) {
-            Ok(job) => {
-                self.jobs[self.count] = job;
-                self.count += 1;
-                Ok(self.count as u32)
-            }
-            Err(fault) => Err(fault),
-        }
+        let job = Job::admit(self.jobs.len(), cells, steps)?;
+        self.jobs.push(job);
+        Ok(self.jobs.len() as u32)
     }
 
     // The table of a run in which no job has had a turn.
     pub fn into_table(self) -> Table
         ensures { (C : List ℕ) → state_of C result ≡ sealed (intake_of C self) }
     {
-        let jobs = self.jobs;
-        let corrections = [Correction::new(); MOST_CORRECTIONS];
-        let order = [Party::Job(0); MOST_COMMITS];
         Table {
             number: self.number,
-            jobs,
-            count: self.count,
-            corrections,
-            opened: 0,
+            jobs: self.jobs,
+            corrections: ArrayVec::new(),
             right: None,
-            order,
-            joined: 0,
+            order: ArrayVec::new(),
             takings: 0,
             settings: 0,
         }

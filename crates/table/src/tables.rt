@@ -1,12 +1,14 @@
-ghost use Rattle.std.specs.Prelude.{◌≡◌, ℕ, suc, ◌<◌, ◌≤◌, false, List, length, take, Some, None, MatchOption};
+ghost use Rattle.std.specs.Prelude.{◌≡◌, ℕ, suc, ◌<◌, ◌≤◌, false, List, length, Some, None};
+ghost use Rattle.std.specs.Result.{MatchResult};
+ghost use Rattle.model.specs.declared.Refusal.TheVariants.{NoSuchJob};
+ghost use Rattle.arrayvec.specs.ArrayVec.{array_vec_len};
 ghost use Rattle.model.specs.Intake.{starts_or};
 ghost use Rattle.model.specs.Logs.{at};
 ghost use Rattle.job.specs.Shape.{is_done};
-ghost use Rattle.model.specs.Rules.{JobState, other_marked, unmark, unmark_in, with_jobs};
-ghost use Rattle.table.specs.States.{jobs_in, state_of, with_right, done, RowTurns, JobTurns, RowBecomes, RowWrites, WriteTaken, Finished};
+ghost use Rattle.model.specs.Rules.{JobState, other_marked, unmark_in, with_jobs};
+ghost use Rattle.table.specs.States.{jobs_in, state_of, with_right, JobTurns, WriteTaken, Finished};
 
 use crate::table::Table;
-use job::job::Job;
 use job::moves::Move;
 use model::{Entry, Party, Refusal};
 use store::Store;
@@ -17,33 +19,30 @@ impl Table {
         ensures value { result ≡ length (jobs_in self.now) }
         ensures few { result ≤ 16 }
     {
-        // The slice shows the checker that the array has so many jobs.
-        self.jobs[0..self.count].len()
+        self.jobs.len()
     }
 
-    // The place of an admitted job.
-    pub(crate) fn place_of(&self, job: u32) -> Option<usize>
-        ensures { MatchOption result (at (jobs_in self.now) job ≡ None) (λ i. (job ≡ suc i) × (i < self.now.count)) }
+    // The place of an admitted job, by its number.
+    pub(crate) fn place_of(&self, job: u32) -> Result<usize, Refusal>
+        ensures { MatchResult result (λ i. (job ≡ suc i) × (i < array_vec_len self.now.jobs)) (λ refusal. (refusal ≡ NoSuchJob) × (at (jobs_in self.now) job ≡ None)) }
     {
-        let job = job as usize;
-        if job == 0 || job > self.count {
-            return None;
+        match (job as usize).checked_sub(1) {
+            Some(i) if i < self.jobs.len() => Ok(i),
+            _ => Err(Refusal::NoSuchJob),
         }
-        Some(job - 1)
     }
 
     // The turn of the job at a place, as far as it changes the job.
     pub(crate) fn turn_job<S: Store>(&mut self, i: usize, store: &S) -> Move
-        requires { i < self.old.count }
+        requires { i < array_vec_len self.old.jobs }
         ensures { JobTurns (S.Store.cells store.now) self.old self.new i result }
     {
-        let right = self.right;
-        turn_at(&mut self.jobs, i, store, right)
+        self.jobs[i].turn(store, self.right)
     }
 
     // The job at a place takes the commit right.
     pub(crate) fn take_right(&mut self, i: usize)
-        requires { i < self.old.count }
+        requires { i < array_vec_len self.old.jobs }
         ensures { (C : List ℕ) → state_of C self.new ≡ with_right (state_of C self.old) (suc i) }
     {
         self.right = Some(i as u32 + 1);
@@ -54,8 +53,8 @@ impl Table {
     pub(crate) fn other_marked(&self, i: usize) -> Option<u32>
         ensures { result ≡ other_marked (suc i) 1 (jobs_in self.now) }
     {
-        for k in 0..self.count {
-            if k != i && self.jobs[k].is_marked() {
+        for (k, job) in self.jobs.iter().enumerate() {
+            if k != i && job.is_marked() {
                 return Some(k as u32 + 1);
             }
         }
@@ -66,34 +65,29 @@ impl Table {
     pub(crate) fn unmark(&mut self, job: u32)
         ensures { (C : List ℕ) → state_of C self.new ≡ with_jobs (state_of C self.old) (unmark_in (jobs_in self.old) job (at (jobs_in self.old) job)) }
     {
-        if let Some(i) = self.place_of(job) {
-            unmark_at(&mut self.jobs, i);
+        if let Ok(i) = self.place_of(job) {
+            self.jobs[i].unmark();
         }
     }
 
     // Takes the lowest entry out of the write log of the job at a place, and counts the setting.
     pub(crate) fn take_write(&mut self, i: usize) -> Option<Entry>
-        requires { i < self.old.count }
+        requires { i < array_vec_len self.old.jobs }
         ensures { WriteTaken self.old self.new i result }
     {
-        match take_write_at(&mut self.jobs, i) {
-            Some(entry) => {
-                self.settings = self.settings.wrapping_add(1);
-                Some(entry)
-            }
-            None => None,
-        }
+        let entry = self.jobs[i].take_write()?;
+        self.settings = self.settings.wrapping_add(1);
+        Some(entry)
     }
 
     // The job at a place frees the right and joins the commit order.
     pub(crate) fn finish(&mut self, i: usize)
-        requires place { i < self.old.count }
+        requires place { i < array_vec_len self.old.jobs }
         requires commit { (b : JobState) × (at (jobs_in self.old) (suc i) ≡ Some b) × (is_done b.stage ≡ false) }
         ensures { Finished self.old self.new i }
     {
-        finish_at(&mut self.jobs, i);
-        self.order[self.joined] = Party::Job(i as u32 + 1);
-        self.joined += 1;
+        self.jobs[i].finish();
+        self.order.push(Party::Job(i as u32 + 1));
         self.right = None;
     }
 }
@@ -129,58 +123,25 @@ impl Table {
 
     // Who stands at a place of the commit order, from 1.
     pub fn entry(&self, place: u32) -> Option<Party>
-        ensures { result ≡ at (take self.now.joined self.now.order) place }
+        ensures { result ≡ at self.now.order.items place }
     {
-        let place = place as usize;
-        if place == 0 || place > self.joined {
-            return None;
-        }
-        Some(self.order[place - 1])
+        let i = (place as usize).checked_sub(1)?;
+        self.order.get(i).copied()
     }
 
     // How many entries the commit order has.
     pub fn commits(&self) -> usize
-        ensures value { result ≡ length (take self.now.joined self.now.order) }
+        ensures value { result ≡ length self.now.order.items }
         ensures few { result ≤ 24 }
     {
-        self.order[0..self.joined].len()
+        self.order.len()
     }
 
     // How often a job has started.
     pub fn starts(&self, job: u32) -> Result<u32, Refusal>
         ensures { result ≡ starts_or (at (jobs_in self.now) job) }
     {
-        match self.place_of(job) {
-            Some(i) => Ok(self.jobs[i].starts()),
-            None => Err(Refusal::NoSuchJob),
-        }
+        let i = self.place_of(job)?;
+        Ok(self.jobs[i].starts())
     }
-}
-
-fn turn_at<S: Store>(jobs: &mut [Job], i: usize, store: &S, right: Option<u32>) -> Move
-    requires { i < length jobs.old }
-    ensures { RowTurns (S.Store.cells store.now) right jobs.old jobs.new i result }
-{
-    jobs[i].turn(store, right)
-}
-
-pub(crate) fn unmark_at(jobs: &mut [Job], i: usize)
-    requires { i < length jobs.old }
-    ensures { RowBecomes unmark jobs.old jobs.new i }
-{
-    jobs[i].unmark();
-}
-
-fn finish_at(jobs: &mut [Job], i: usize)
-    requires { i < length jobs.old }
-    ensures { RowBecomes done jobs.old jobs.new i }
-{
-    jobs[i].finish();
-}
-
-fn take_write_at(jobs: &mut [Job], i: usize) -> Option<Entry>
-    requires { i < length jobs.old }
-    ensures { RowWrites jobs.old jobs.new i result }
-{
-    jobs[i].take_write()
 }

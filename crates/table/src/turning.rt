@@ -1,4 +1,5 @@
 ghost use Rattle.std.specs.Prelude.{◌≡◌, suc, ◌<◌, Some, Ok};
+ghost use Rattle.arrayvec.specs.ArrayVec.{array_vec_len};
 ghost use Rattle.model.specs.Calls.{turn};
 ghost use Rattle.model.specs.Logs.{at};
 ghost use Rattle.model.specs.Rules.{JobState};
@@ -17,9 +18,7 @@ impl Table {
         ensures answer { result ≡ (turn (state_of (S.Store.cells store.old) self.old) job).answer }
         ensures loan { S.Store.loan store.new ≡ S.Store.loan store.old }
     {
-        let Some(i) = self.place_of(job) else {
-            return Err(Refusal::NoSuchJob);
-        };
+        let i = self.place_of(job)?;
         match self.turn_job(i, store) {
             Move::NoRule => Ok(None),
             Move::Applies(applied) => Ok(Some(applied)),
@@ -36,7 +35,7 @@ impl Table {
 
     // The turn of a job that holds the commit right.
     fn commit<S: Store>(&mut self, store: &mut S, i: usize) -> Applied
-        requires place { i < self.old.count }
+        requires place { i < array_vec_len self.old.jobs }
         requires stage { (b : JobState) × (at (jobs_in self.old) (suc i) ≡ Some b) × (b.stage ≡ Commit) }
         ensures next { state_of (S.Store.cells store.new) self.new ≡ (turn (state_of (S.Store.cells store.old) self.old) (suc i)).next }
         ensures answer { Ok (Some result) ≡ (turn (state_of (S.Store.cells store.old) self.old) (suc i)).answer }

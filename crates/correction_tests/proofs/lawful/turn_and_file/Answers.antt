@@ -3,8 +3,8 @@ use Rattle.model.specs.Calls.{Turn, File, call}
 use Rattle.model.specs.Intake.{closed_cells}
 use Rattle.model.specs.Law.{left_by}
 use Rattle.model.proofs.Closing.{closing}
-use Rattle.correctable_run.specs.Runs.{state}
-use Rattle.correctable_run.specs.Slips.{numbers_of}
+use Rattle.run.specs.Runs.{state}
+use Rattle.run.specs.Slips.{numbers_of}
 use Rattle.correction_tests.proofs.lawful.turn_and_file.Goals as goal
 
 pub returns : goal.returns

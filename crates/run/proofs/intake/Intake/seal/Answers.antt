@@ -1,8 +1,8 @@
 use Rattle.std.proofs.Common.{sym, refl, subst}
 use Rattle.model.specs.Law.{Lawful}
 use Rattle.model.proofs.Whole.{law}
-use Rattle.run.specs.Intakes.{intake_of}
-use Rattle.run.proofs.Rostering.{well_formed_lem}
+use Rattle.table.specs.Intakes.{intake_of}
+use Rattle.table.proofs.Rostering.{well_formed_lem}
 use Rattle.run.proofs.intake.Intake.seal.Goals as goal
 
 pub returns : goal.returns

@@ -15,7 +15,7 @@ pub loop-k-preserved : goal.loop-k-preserved
 loop-k-preserved g c =
     let s = state g.S.Store.cells c.loop-k.self in
     let n = c.len-most.result + 25 in (
-      ap (λ (t : State). (settle_in (n - (c.loop-k.k + 1)) t).next) c.turn.ensures.next ∙ sym (settle_more s n c.loop-k.k c.in-Some.holder c.loop-k-test.true c.in-Some.is) ∙ c.loop-k.invariant.0,
+      ap (λ (t : State). (settle_in (n - (c.loop-k.k + 1)) t).next) c.turn.ensures.next ∙ sym (settle_more s n c.loop-k.k c.in-Some.holder c.loop-k-test.true (sym c.right.ensures ∙ c.in-Some.is)) ∙ c.loop-k.invariant.0,
       c.turn.ensures.loan ∙ c.loop-k.invariant.1,
     )
 
@@ -25,7 +25,7 @@ returns-in_default g c =
     let s₀ = state g.S.Store.cells c.args.self.now in
     let n = c.len-most.result + 25 in
     record {
-      next = sym (settle_free s (n - c.loop-k.k) c.in_default.is) ∙ c.loop-k.invariant.0 ∙ ap (λ (m : ℕ). (settle_in (m + 25) s₀).next) c.len-most.ensures.value;
+      next = sym (settle_free s (n - c.loop-k.k) (sym c.right.ensures ∙ c.in_default.is)) ∙ c.loop-k.invariant.0 ∙ ap (λ (m : ℕ). (settle_in (m + 25) s₀).next) c.len-most.ensures.value;
       loan = c.loop-k.invariant.1;
     }
 

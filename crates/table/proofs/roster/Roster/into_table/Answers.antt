@@ -1,13 +1,21 @@
-use Rattle.std.proofs.Common.{[], take, None, arith}
+use Rattle.std.proofs.Common.{map, length, None, ap, arith}
+use Rattle.correction.specs.Corrections.{correction_of}
+use Rattle.table.specs.Shape.{unclosed}
 use Rattle.table.proofs.Rostering.{as_admitted}
 use Rattle.table.proofs.Tabling.{unfinished_le}
 use Rattle.table.proofs.roster.Roster.into_table.Goals as goal
 
 pub invariant_of-result : goal.invariant_of-result
-invariant_of-result c = let r = c.args.self in record { few = r.few; wide = omega arith; room = omega (arith, unfinished_le r.jobs); places = omega arith }
+invariant_of-result c =
+    let r = c.args.self in
+    record {
+      room = omega (arith, unfinished_le r.jobs.items, ap length c.new-2.ensures, ap unclosed c.new.ensures, ap length c.new.ensures);
+      few_jobs = r.few_jobs;
+      few_corrections = omega (arith, ap length c.new.ensures);
+    }
 
 pub returns : goal.returns
 returns c =
     let r = c.args.self in
-    let jobs = as_admitted (take r.count r.jobs) r.unstarted in
-    λ C n. record { number = r.number; cells = C; jobs = jobs n; corrections = []; right = None; order = []; takings = 0; settings = 0 }
+    let jobs = as_admitted r.jobs.items r.unstarted in
+    λ C n. record { number = r.number; cells = C; jobs = jobs n; corrections = ap (map correction_of) c.new.ensures n; right = None; order = c.new-2.ensures n; takings = 0; settings = 0 }

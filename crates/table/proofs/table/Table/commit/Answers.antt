@@ -24,7 +24,7 @@ returns-in-Some-take_write g c =
     let same = same_job s c.args.i w.0 b.0 w.2 b.1 in
     let x =
     c2 s _ c.args.i b.0 b.1 b.2 w.1 c.in-Some-take_write.entry D c.in_default.ensures (subst (λ z. WriteOf z w.1 (Some c.in-Some-take_write.entry)) same w.3)
-    c.set.ensures.after (w.4 C D) in
+    c.set.ensures.after (w.4 D) in
     record { next = x.0; answer = x.1; loan = c.set.ensures.same }
 
 pub finish-requires : goal.finish-requires

@@ -1,24 +1,32 @@
-use Rattle.std.proofs.Common.{refl}
+use Rattle.std.proofs.Common.{Err, refl, ap, ◌∙◌, arith}
+use Rattle.std.proofs.lemmas.Result.{err_from_is_err_and}
 use Rattle.correction.specs.Calls.{reading}
-use Rattle.table.specs.Corrections.{numbers}
-use Rattle.table.proofs.Corrected.{room-called, called, by_place, by-none}
+use Rattle.table.specs.Slips.{numbers_of}
+use Rattle.table.proofs.Corrected.{as_many_opened, room-called, called, by_place, by-none}
 use Rattle.table.proofs.table.Table.read.Goals as goal
 
-pub returns-in_default : goal.returns-in_default
-returns-in_default g c =
-    by-none (reading c.args.cell) (g.S.Store.cells c.args.store.now) c.args.self.now (numbers c.args.run c.args.correction) (λ s k. refl) c.in_default.ensures
+pub returns-in_err-i : goal.returns-in_err-i
+returns-in_err-i g c =
+    let r = err_from_is_err_and c.from_residual.result c.from_residual.ensures.1 in
+    by-none (reading c.args.cell) (g.S.Store.cells c.args.store.now) c.args.self.now (numbers_of c.args.slip.now) (λ s k. refl) c.in_err-i.field-0.0 c.in_err-i.ensures c.from_residual.result (r.1 ∙ ap Err r.2)
 
 pub invariant_of-self : goal.invariant_of-self
 invariant_of-self g c =
     let t = c.args.self.now in
     let C = g.S.Store.cells c.args.store.now in
-    let p = c.in-Some.ensures in
-    record { few = t.few; wide = t.wide; room = room-called (reading c.args.cell) C t c.read_at.new.corrections c.in-Some.i c.read_at.result p.0 c.read_at.ensures (λ s k. refl); places = t.places }
+    let xs = c.deref_mut.result.now in
+    let d = c.index-deref_mut-i.result in
+    let p = c.in_ok-i.ensures in
+    record {
+      room = room-called t xs c.in_ok-i.i d c.deref_mut.ensures.value p.0 (reading c.args.cell) C c.read.new.self c.read.result c.read.ensures (λ s k. refl);
+      few_jobs = t.few_jobs;
+      few_corrections = omega (arith, t.few_corrections, as_many_opened t xs c.in_ok-i.i d c.deref_mut.ensures.value p.0 c.read.new.self);
+    }
 
 pub returns : goal.returns
 returns g c =
     let t = c.args.self.now in
     let C = g.S.Store.cells c.args.store.now in
-    let p = c.in-Some.ensures in
-    by_place (reading c.args.cell) C t (numbers c.args.run c.args.correction) _ c.read_at.result c.in-Some.i p
-    (called (reading c.args.cell) C t c.read_at.new.corrections c.in-Some.i c.read_at.result p.0 c.read_at.ensures)
+    let p = c.in_ok-i.ensures in
+    by_place (reading c.args.cell) C t (numbers_of c.args.slip.now) _ c.read.result c.in_ok-i.i p
+    (called t c.deref_mut.result.now c.in_ok-i.i c.index-deref_mut-i.result c.deref_mut.ensures.value p.0 (reading c.args.cell) C c.read.new.self c.read.result c.read.ensures)

@@ -1,52 +1,68 @@
-use Rattle.std.proofs.Common.{take, refl, ◌∙◌, subst}
+use Rattle.std.proofs.Common.{suc, get_or, sym, refl, ap, ◌∙◌, subst, arith}
 use Rattle.job.specs.Jobs.{job_of}
 use Rattle.job.specs.Moves.{WriteOf}
 use Rattle.model.specs.Rules.{counted}
-use Rattle.table.specs.Shape.{unclosed}
-use Rattle.table.specs.States.{state_of}
-use Rattle.table.proofs.Tabling.{row_at, row-set, room_kept, done_write, with_same}
+use Rattle.table.specs.States.{state_of, after_taking}
+use Rattle.table.proofs.Tabling.{row_means, row_becomes, as_many, room_kept, done_write, with_same}
 use Rattle.table.proofs.table.Table.take_write.Goals as goal
 
 pub invariant_of-self : goal.invariant_of-self
 invariant_of-self c =
     let t = c.args.self.now in
-    let x = c.take_write_at.ensures in
-    record { few = t.few; wide = t.wide; room = room_kept t.joined (unclosed (take t.opened t.corrections)) t.opened c.args.i t.jobs c.take_write_at.new.jobs x.0 x.1 x.2 x.3 (done_write x.0 x.1 c.take_write_at.result x.4) t.room; places = t.places }
+    let xs = c.deref_mut.result.now in
+    let d = c.index-deref_mut-i.result in
+    let b' = c.take_write.new.self in
+    record {
+      room = room_kept t xs c.args.i d c.deref_mut.ensures.value c.requires b' (done_write (get_or xs c.args.i d) b' c.take_write.result c.take_write.ensures);
+      few_jobs = omega (arith, t.few_jobs, as_many t xs c.args.i d c.deref_mut.ensures.value c.requires b');
+      few_corrections = t.few_corrections;
+    }
 
-pub invariant_of-self-in-None : goal.invariant_of-self-in-None
-invariant_of-self-in-None c =
+pub invariant_of-self-2 : goal.invariant_of-self-2
+invariant_of-self-2 c =
     let t = c.args.self.now in
-    let x = c.take_write_at.ensures in
-    record { few = t.few; wide = t.wide; room = room_kept t.joined (unclosed (take t.opened t.corrections)) t.opened c.args.i t.jobs c.take_write_at.new.jobs x.0 x.1 x.2 x.3 (done_write x.0 x.1 c.take_write_at.result x.4) t.room; places = t.places }
+    let xs = c.deref_mut.result.now in
+    let d = c.index-deref_mut-i.result in
+    let b' = c.take_write.new.self in
+    record {
+      room = room_kept t xs c.args.i d c.deref_mut.ensures.value c.requires b' (done_write (get_or xs c.args.i d) b' c.take_write.result c.take_write.ensures);
+      few_jobs = omega (arith, t.few_jobs, as_many t xs c.args.i d c.deref_mut.ensures.value c.requires b');
+      few_corrections = t.few_corrections;
+    }
 
-pub returns-in-Some : goal.returns-in-Some
-returns-in-Some c =
-    let t = c.args.self.now in
-    let i = c.args.i in
-    let x = c.take_write_at.ensures in
-    let e = row-set job_of t.count i t.jobs c.take_write_at.new.jobs x.1 (job_of x.1) c.requires x.3 refl in (
-      job_of x.0,
-      job_of x.1,
-      row_at job_of t.jobs t.count i x.0 c.requires x.2,
-      subst (WriteOf (job_of x.0) (job_of x.1)) c.in-Some.is x.4,
-      (λ C D n. record { number = t.number; cells = D; jobs = e n; corrections = (state_of C t).corrections; right = t.right; order = (state_of C t).order; takings = t.takings; settings = counted t.settings }),
-      refl,
-    )
-
-pub returns-in-None : goal.returns-in-None
-returns-in-None c =
+pub returns-in_err-entry : goal.returns-in_err-entry
+returns-in_err-entry c =
     let t = c.args.self.now in
     let i = c.args.i in
-    let x = c.take_write_at.ensures in
-    let none = subst (WriteOf (job_of x.0) (job_of x.1)) c.in-None.is x.4 in
-    let h = row_at job_of t.jobs t.count i x.0 c.requires x.2 in
-    let e = row-set job_of t.count i t.jobs c.take_write_at.new.jobs x.1 (job_of x.0) c.requires x.3 none.1 in (
-      job_of x.0,
-      job_of x.1,
+    let xs = c.deref_mut.result.now in
+    let d = c.index-deref_mut-i.result in
+    let b = job_of (get_or xs i d) in
+    let b' = c.take_write.new.self in
+    let none = subst (WriteOf b (job_of b')) c.in_err-entry.was c.take_write.ensures in
+    let h = row_means job_of t.jobs xs i d c.deref_mut.ensures.value c.requires in
+    let e = row_becomes job_of t.jobs xs i d c.deref_mut.ensures.value c.requires b' b none.1 in (
+      b,
+      b,
       h,
-      none,
+      subst (WriteOf b b) (sym c.from_residual.ensures) (none.0, refl),
       (λ C.
           (λ n. record { number = t.number; cells = C; jobs = e n; corrections = (state_of C t).corrections; right = t.right; order = (state_of C t).order; takings = t.takings; settings = t.settings })
-          ∙ with_same (state_of C t) i (job_of x.0) h),
-      refl,
+          ∙ (with_same (state_of C t) i b h ∙ ap (after_taking (state_of C t) (suc i) b) (sym c.from_residual.ensures))),
+      as_many t xs i d c.deref_mut.ensures.value c.requires b',
+    )
+
+pub returns : goal.returns
+returns c =
+    let t = c.args.self.now in
+    let i = c.args.i in
+    let xs = c.deref_mut.result.now in
+    let d = c.index-deref_mut-i.result in
+    let b' = c.take_write.new.self in
+    let e = row_becomes job_of t.jobs xs i d c.deref_mut.ensures.value c.requires b' (job_of b') refl in (
+      job_of (get_or xs i d),
+      job_of b',
+      row_means job_of t.jobs xs i d c.deref_mut.ensures.value c.requires,
+      subst (WriteOf (job_of (get_or xs i d)) (job_of b')) c.in_ok-entry.was c.take_write.ensures,
+      (λ C n. record { number = t.number; cells = C; jobs = e n; corrections = (state_of C t).corrections; right = t.right; order = (state_of C t).order; takings = t.takings; settings = counted t.settings }),
+      as_many t xs i d c.deref_mut.ensures.value c.requires b',
     )

@@ -1,27 +1,33 @@
-use Rattle.std.proofs.Common.{take, refl}
+use Rattle.std.proofs.Common.{get_or, refl, arith}
 use Rattle.job.specs.Jobs.{job_of}
-use Rattle.table.specs.Shape.{unclosed}
 use Rattle.table.specs.States.{state_of}
-use Rattle.table.proofs.Tabling.{row-set, row_at, room_kept, same_done}
+use Rattle.table.proofs.Tabling.{row_means, row_becomes, as_many, room_kept, same_done}
 use Rattle.table.proofs.table.Table.turn_job.Goals as goal
 
 pub invariant_of-self : goal.invariant_of-self
 invariant_of-self g c =
     let t = c.args.self.now in
     let s = state_of (g.S.Store.cells c.args.store.now) t in
-    let x = c.turn_at.ensures in
-    record { few = t.few; wide = t.wide; room = room_kept t.joined (unclosed (take t.opened t.corrections)) t.opened c.args.i t.jobs c.turn_at.new.jobs x.0 x.1 x.2 x.3 (same_done s 0 (job_of x.0) (job_of x.1) c.turn_at.result (x.4 s 0 refl refl)) t.room; places = t.places }
+    let xs = c.deref_mut.result.now in
+    let d = c.index-deref_mut-i.result in
+    let b' = c.turn.new.self in
+    record {
+      room = room_kept t xs c.args.i d c.deref_mut.ensures.value c.requires b' (same_done s 0 (job_of (get_or xs c.args.i d)) (job_of b') c.turn.result (c.turn.ensures s 0 refl refl));
+      few_jobs = omega (arith, t.few_jobs, as_many t xs c.args.i d c.deref_mut.ensures.value c.requires b');
+      few_corrections = t.few_corrections;
+    }
 
 pub returns : goal.returns
 returns g c =
     let t = c.args.self.now in
-    let i = c.args.i in
-    let x = c.turn_at.ensures in
-    let e = row-set job_of t.count i t.jobs c.turn_at.new.jobs x.1 (job_of x.1) c.requires x.3 refl in (
-      job_of x.0,
-      job_of x.1,
-      row_at job_of t.jobs t.count i x.0 c.requires x.2,
+    let xs = c.deref_mut.result.now in
+    let d = c.index-deref_mut-i.result in
+    let b' = c.turn.new.self in
+    let e = row_becomes job_of t.jobs xs c.args.i d c.deref_mut.ensures.value c.requires b' (job_of b') refl in (
+      job_of (get_or xs c.args.i d),
+      job_of b',
+      row_means job_of t.jobs xs c.args.i d c.deref_mut.ensures.value c.requires,
       (λ C n. record { number = t.number; cells = C; jobs = e n; corrections = (state_of C t).corrections; right = t.right; order = (state_of C t).order; takings = t.takings; settings = t.settings }),
-      (λ s j hc hr. x.4 s j hc hr),
-      refl,
+      c.turn.ensures,
+      as_many t xs c.args.i d c.deref_mut.ensures.value c.requires b',
     )

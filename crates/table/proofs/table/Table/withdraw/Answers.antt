@@ -1,22 +1,31 @@
-use Rattle.std.proofs.Common.{[], refl}
+use Rattle.std.proofs.Common.{[], Err, refl, ap, ◌∙◌, arith}
+use Rattle.std.proofs.lemmas.Result.{err_from_is_err_and}
 use Rattle.correction.specs.Calls.{withdrawing}
-use Rattle.table.specs.Corrections.{numbers}
-use Rattle.table.proofs.Corrected.{room-called, called, by_place, by-none}
+use Rattle.table.specs.Slips.{numbers_of}
+use Rattle.table.proofs.Corrected.{as_many_opened, room-called, called, by_place, by-none}
 use Rattle.table.proofs.table.Table.withdraw.Goals as goal
 
-pub returns-in-None : goal.returns-in-None
-returns-in-None c = λ C. by-none withdrawing C c.args.self.now (numbers c.args.run c.args.correction) (λ s k. refl) c.in-None.ensures
+pub returns-in_err-i : goal.returns-in_err-i
+returns-in_err-i c =
+    let r = err_from_is_err_and c.from_residual.result c.from_residual.ensures.1 in
+    λ C. by-none withdrawing C c.args.self.now (numbers_of c.args.slip.now) (λ s k. refl) c.in_err-i.field-0.0 c.in_err-i.ensures c.from_residual.result (r.1 ∙ ap Err r.2)
 
 pub invariant_of-self : goal.invariant_of-self
 invariant_of-self c =
     let t = c.args.self.now in
-    let p = c.in-Some.ensures in
-    record { few = t.few; wide = t.wide; room = room-called withdrawing [] t c.withdraw_at.new.corrections c.in-Some.i c.withdraw_at.result p.0 (c.withdraw_at.ensures []) (λ s k. refl); places = t.places }
+    let xs = c.deref_mut.result.now in
+    let d = c.index-deref_mut-i.result in
+    let p = c.in_ok-i.ensures in
+    record {
+      room = room-called t xs c.in_ok-i.i d c.deref_mut.ensures.value p.0 withdrawing [] c.withdraw.new.self c.withdraw.result (c.withdraw.ensures []) (λ s k. refl);
+      few_jobs = t.few_jobs;
+      few_corrections = omega (arith, t.few_corrections, as_many_opened t xs c.in_ok-i.i d c.deref_mut.ensures.value p.0 c.withdraw.new.self);
+    }
 
-pub returns-in-Some : goal.returns-in-Some
-returns-in-Some c =
+pub returns : goal.returns
+returns c =
     let t = c.args.self.now in
-    let p = c.in-Some.ensures in
+    let p = c.in_ok-i.ensures in
     λ C.
-    by_place withdrawing C t (numbers c.args.run c.args.correction) _ c.withdraw_at.result c.in-Some.i p
-    (called withdrawing C t c.withdraw_at.new.corrections c.in-Some.i c.withdraw_at.result p.0 (c.withdraw_at.ensures C))
+    by_place withdrawing C t (numbers_of c.args.slip.now) _ c.withdraw.result c.in_ok-i.i p
+    (called t c.deref_mut.result.now c.in_ok-i.i c.index-deref_mut-i.result c.deref_mut.ensures.value p.0 withdrawing C c.withdraw.new.self c.withdraw.result (c.withdraw.ensures C))

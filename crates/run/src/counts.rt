@@ -1,0 +1,31 @@
+ghost use Rattle.std.specs.Prelude.{◌≡◌, ◌≤◌, length};
+ghost use Rattle.run.specs.Runs.{state};
+
+use crate::run::Run;
+use store::Store;
+
+impl<S: Store> Run<S> {
+    // How many cells there are.
+    pub fn count(&self) -> usize
+        ensures value { result ≡ length (state S.Store.cells self.now).cells }
+        ensures few { result ≤ 65536 }
+    {
+        self.store.count()
+    }
+
+    // How many jobs were admitted.
+    pub fn jobs(&self) -> usize
+        ensures value { result ≡ length (state S.Store.cells self.now).jobs }
+        ensures few { result ≤ 16 }
+    {
+        self.table.len()
+    }
+
+    // How many entries the commit order has.
+    pub fn commits(&self) -> usize
+        ensures value { result ≡ length (state S.Store.cells self.now).order }
+        ensures few { result ≤ 24 }
+    {
+        self.table.commits()
+    }
+}
