@@ -63,7 +63,7 @@ pub enum Stage {
 
 // The rules of a turn, in their order. They are named as in Sulzmann and Chu, "A Rule-Based Specification of Software
 // Transactional Memory", with p for the steps that touch registers only and rb for the return from rollback.
-#[derive(Clone, Copy)]
+#[derive(Clone, Copy, Debug, PartialEq)]
 pub enum Rule {
     S1,
     S2,
@@ -87,7 +87,7 @@ pub enum Rule {
 }
 
 // What a turn did: the rule, and the cell for the rules that name one.
-#[derive(Clone, Copy)]
+#[derive(Clone, Copy, Debug, PartialEq)]
 pub struct Applied {
     pub rule: Rule,
     pub cell: Option<u32>,

@@ -1,6 +1,12 @@
-// Tests of runs over every kind of store and over layers: what jobs leave, who waits and wakes, and what is refused.
+// Tests of runs over every kind of store and over layers: what jobs and corrections leave, who waits and wakes, and what
+// is refused.
 #![tactic(auto)]
 
+#[cfg(test)]
+mod checks;
+#[cfg(test)]
+mod corrected;
+pub mod lawful;
 #[cfg(test)]
 mod outcomes;
 #[cfg(test)]
@@ -8,4 +14,8 @@ mod programs;
 #[cfg(test)]
 mod refusals;
 #[cfg(test)]
+mod slips;
+#[cfg(test)]
 mod stores;
+#[cfg(test)]
+mod turns;

@@ -1,4 +1,6 @@
+use crate::checks::Checks;
 use crate::programs::{adder, mover};
+use crate::turns::{settled_turns, takes_right};
 use model::{Applied, Party, Rule};
 use run::intake::Intake;
 use run::run::Run;
@@ -10,24 +12,28 @@ pub(crate) const ADDERS: u32 = 16;
 // More rounds than any run here needs.
 const MOST_ROUNDS: u32 = 2000;
 
-// Job j adds j to cell j % 3, so that the jobs get in each other's way. Says whether they all committed, some only
-// after a restart, and left the sums.
-pub(crate) fn sums<S: Store>(store: S) -> (S, bool) {
+// Job j adds j to cell j % 3, so that the jobs get in each other's way. They all commit, some only after a restart, and
+// leave the sums.
+pub(crate) fn sums<S: Store>(checks: &mut Checks, store: S) -> S {
     let mut intake = Intake::new(store, 1);
-    let mut admitted = true;
     for job in 1..=ADDERS {
-        admitted = admitted && intake.admit(&adder(job % 3, job)) == Ok(job);
+        checks.that("sums", intake.admit(&adder(job % 3, job)) == Ok(job));
     }
     let mut run = intake.seal();
     rounds(&mut run);
-    let good = admitted
-        && all_committed(&run)
-        && restarts(&run) > 0
-        && run.takings() == ADDERS
-        && run.settings() == ADDERS;
+    checks.that(
+        "sums",
+        run.entry(0).is_none() && run.entry(ADDERS + 1).is_none(),
+    );
+    checks.that("sums", (1..=ADDERS).all(|job| stands(&run, job)));
+    checks.that("sums", starts(&run) > ADDERS);
+    checks.that("sums", run.takings() == ADDERS && run.settings() == ADDERS);
     let store = run.close();
-    let left = store.get(0) == Some(45) && store.get(1) == Some(51) && store.get(2) == Some(40);
-    (store, good && left)
+    checks.that(
+        "sums",
+        store.get(0) == Some(45) && store.get(1) == Some(51) && store.get(2) == Some(40),
+    );
+    store
 }
 
 // Gives every job a turn, round after round, until a round has no rule.
@@ -42,89 +48,71 @@ fn rounds<S: Store>(run: &mut Run<S>) {
 fn round<S: Store>(run: &mut Run<S>) -> bool {
     let mut applied = false;
     for job in 1..=ADDERS {
-        applied = matches!(run.turn(job), Ok(Some(_))) || applied;
+        applied |= matches!(run.turn(job), Ok(Some(_)));
     }
     applied
 }
 
-fn all_committed<S: Store>(run: &Run<S>) -> bool {
-    let mut all = run.entry(0).is_none() && run.entry(ADDERS + 1).is_none();
-    for job in 1..=ADDERS {
-        all = all && stands(run, job);
-    }
-    all
-}
-
 fn stands<S: Store>(run: &Run<S>, job: u32) -> bool {
-    for place in 1..=ADDERS {
-        if run.entry(place) == Some(Party::Job(job)) {
-            return true;
-        }
-    }
-    false
+    (1..=ADDERS).any(|place| run.entry(place) == Some(Party::Job(job)))
 }
 
-// How many starts there were beyond one a job.
-fn restarts<S: Store>(run: &Run<S>) -> u32 {
-    let mut starts = 0u32;
-    for job in 1..=ADDERS {
-        starts = starts.wrapping_add(run.starts(job).unwrap_or(0));
-    }
-    starts.wrapping_sub(ADDERS)
+// How many starts there were.
+fn starts<S: Store>(run: &Run<S>) -> u32 {
+    (1..=ADDERS).fold(
+        0u32,
+        |starts, job| starts.saturating_add(run.starts(job).unwrap_or(0)),
+    )
 }
 
-// A mover waits for an adder. Says whether it rested while its cell was 0, woke once the adder had set it, and moved
-// the number.
-pub(crate) fn waits<S: Store>(store: S) -> (S, bool) {
+// A mover waits for an adder: it rests while its cell is 0, wakes once the adder has set it, and moves the number.
+pub(crate) fn waits<S: Store>(checks: &mut Checks, store: S) -> S {
     let mut intake = Intake::new(store, 2);
-    let admitted = intake.admit(&mover(0, 1)) == Ok(1) && intake.admit(&adder(0, 5)) == Ok(2);
-    let mut run = intake.seal();
-    let rested = settled_turns(&mut run, 1) == 3 && run.entry(1).is_none();
-    let added = settled_turns(&mut run, 2) == 10 && run.entry(1) == Some(Party::Job(2));
-    let woke = matches!(
-        run.turn(1),
-        Ok(Some(Applied {
-            rule: Rule::Rt,
-            cell: Some(0)
-        }))
+    checks.that(
+        "waits",
+        intake.admit(&mover(0, 1)) == Ok(1) && intake.admit(&adder(0, 5)) == Ok(2),
     );
-    settled_turns(&mut run, 1);
-    let moved = run.cell(0) == Ok(0) && run.cell(1) == Ok(5) && run.starts(1) == Ok(2);
-    (run.close(), admitted && rested && added && woke && moved)
-}
-
-// Gives a job turns until it has none to take, and tells how many applied a rule.
-fn settled_turns<S: Store>(run: &mut Run<S>, job: u32) -> u32 {
-    for turns in 0..MOST_ROUNDS {
-        if !matches!(run.turn(job), Ok(Some(_))) {
-            return turns;
-        }
-    }
-    MOST_ROUNDS
-}
-
-// A job is stopped as soon as it has the right. Says whether settling carries its commit to the end, and closing too.
-pub(crate) fn settles<S: Store>(store: S) -> (S, bool) {
-    let mut intake = Intake::new(store, 3);
-    let admitted = intake.admit(&adder(2, 9)) == Ok(1) && intake.admit(&adder(1, 8)) == Ok(2);
     let mut run = intake.seal();
-    let held = takes_right(&mut run, 1) && run.settings() == 0 && run.entry(1).is_none();
-    run.settle();
-    let settled = run.cell(2) == Ok(9)
-        && run.settings() == 1
-        && run.entry(1) == Some(Party::Job(1));
-    let held_again = takes_right(&mut run, 2) && run.cell(1) == Ok(0);
-    let store = run.close();
-    let closed = store.get(1) == Some(8);
-    (store, admitted && held && settled && held_again && closed)
+    checks.that(
+        "waits",
+        settled_turns(&mut run, 1) == 3 && run.entry(1).is_none(),
+    );
+    checks.that(
+        "waits",
+        settled_turns(&mut run, 2) == 10 && run.entry(1) == Some(Party::Job(2)),
+    );
+    let woke = Applied {
+        rule: Rule::Rt,
+        cell: Some(0),
+    };
+    checks.that("waits", run.turn(1) == Ok(Some(woke)));
+    settled_turns(&mut run, 1);
+    checks.that(
+        "waits",
+        run.cell(0) == Ok(0) && run.cell(1) == Ok(5) && run.starts(1) == Ok(2),
+    );
+    run.close()
 }
 
-// Gives a job turns until it takes the right.
-fn takes_right<S: Store>(run: &mut Run<S>, job: u32) -> bool {
-    for _ in 0..MOST_ROUNDS {
-        if let Ok(Some(Applied { rule: Rule::V3, .. })) = run.turn(job) {
-            return true;
-        }
-    }
-    false
+// A job is stopped as soon as it has the right. Settling carries its commit to the end, and closing too.
+pub(crate) fn settles<S: Store>(checks: &mut Checks, store: S) -> S {
+    let mut intake = Intake::new(store, 3);
+    checks.that(
+        "settles",
+        intake.admit(&adder(2, 9)) == Ok(1) && intake.admit(&adder(1, 8)) == Ok(2),
+    );
+    let mut run = intake.seal();
+    checks.that(
+        "settles",
+        takes_right(&mut run, 1) && run.settings() == 0 && run.entry(1).is_none(),
+    );
+    run.settle();
+    checks.that(
+        "settles",
+        run.cell(2) == Ok(9) && run.settings() == 1 && run.entry(1) == Some(Party::Job(1)),
+    );
+    checks.that("settles", takes_right(&mut run, 2) && run.cell(1) == Ok(0));
+    let store = run.close();
+    checks.that("settles", store.get(1) == Some(8));
+    store
 }

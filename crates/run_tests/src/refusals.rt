@@ -1,3 +1,4 @@
+use crate::checks::Checks;
 use crate::outcomes::ADDERS;
 use crate::programs::adder;
 use model::{Fault, Refusal, Step};
@@ -9,22 +10,24 @@ use store::word_table::WordTable;
 // How many cells the store of these tests has.
 const CELLS: u32 = 2;
 
+// Refused admissions, then as many jobs as there may be, which have the numbers from 1 on, and one more.
 #[test]
 fn admissions(rt: HostRuntime) {
+    let mut checks = Checks::new();
     let mut words = [0; CELLS as usize];
-    let (table, good) = admit_all(WordTable::new(&mut words));
-    drop(table);
-    assert!(rt; good);
-}
-
-// Refused admissions, then as many jobs as there may be, which have the numbers from 1 on, and one more.
-fn admit_all<S: Store>(store: S) -> (S, bool) {
-    let mut intake = Intake::new(store, 1);
-    let refused = refuses_steps(&mut intake) && refuses_programs(&mut intake);
-    let longest = intake.admit(&longest()) == Ok(1);
-    let others = admits_others(&mut intake);
-    let full = intake.admit(&[]) == fault(Refusal::TooManyJobs, 0, 0);
-    (intake.seal().close(), refused && longest && others && full)
+    let mut intake = Intake::new(WordTable::new(&mut words), 1);
+    refuses_steps(&mut checks, &mut intake);
+    refuses_programs(&mut checks, &mut intake);
+    checks.that("admissions", intake.admit(&longest()) == Ok(1));
+    for job in 2..=ADDERS {
+        checks.that("admissions", intake.admit(&adder(1, 1)) == Ok(job));
+    }
+    checks.that(
+        "admissions",
+        intake.admit(&[]) == fault(Refusal::TooManyJobs, 0, 0),
+    );
+    drop(intake.seal().close());
+    assert_eq!(rt; checks.failed(), None);
 }
 
 // Steps that are refused where an end follows, with the refusal and the field.
@@ -44,20 +47,33 @@ fn wrong_steps() -> [(Step, Refusal, u32); 11] {
     ]
 }
 
-fn refuses_steps<S: Store>(intake: &mut Intake<S>) -> bool {
-    let mut good = true;
+fn refuses_steps<S: Store>(checks: &mut Checks, intake: &mut Intake<S>) {
     for (step, refusal, field) in wrong_steps() {
-        good = good && intake.admit(&[step, Step::End]) == fault(refusal, 1, field);
+        checks.that(
+            "refuses steps",
+            intake.admit(&[step, Step::End]) == fault(refusal, 1, field),
+        );
     }
-    good
 }
 
 // No steps, one too many, a fault in the second step before one of the last, and a last step that goes on.
-fn refuses_programs<S: Store>(intake: &mut Intake<S>) -> bool {
-    intake.admit(&[]) == fault(Refusal::StepCount, 0, 0)
-        && intake.admit(&[Step::End; 25]) == fault(Refusal::StepCount, 0, 0)
-        && intake.admit(&[load(0), load(8), load(0)]) == fault(Refusal::NoSuchRegister, 2, 1)
-        && intake.admit(&[Step::End, load(0)]) == fault(Refusal::LastStep, 2, 0)
+fn refuses_programs<S: Store>(checks: &mut Checks, intake: &mut Intake<S>) {
+    checks.that(
+        "refuses programs",
+        intake.admit(&[]) == fault(Refusal::StepCount, 0, 0),
+    );
+    checks.that(
+        "refuses programs",
+        intake.admit(&[Step::End; 25]) == fault(Refusal::StepCount, 0, 0),
+    );
+    checks.that(
+        "refuses programs",
+        intake.admit(&[load(0), load(8), load(0)]) == fault(Refusal::NoSuchRegister, 2, 1),
+    );
+    checks.that(
+        "refuses programs",
+        intake.admit(&[Step::End, load(0)]) == fault(Refusal::LastStep, 2, 0),
+    );
 }
 
 // 24 steps, of which the first names the last.
@@ -66,14 +82,6 @@ fn longest() -> [Step; 24] {
     steps[0] = less(0, 1, 24);
     steps[23] = Step::Wait;
     steps
-}
-
-fn admits_others<S: Store>(intake: &mut Intake<S>) -> bool {
-    let mut good = true;
-    for job in 2..=ADDERS {
-        good = good && intake.admit(&adder(1, 1)) == Ok(job);
-    }
-    good
 }
 
 fn fault(refusal: Refusal, step: u32, field: u32) -> Result<u32, Fault> {
@@ -111,37 +119,29 @@ fn less(register: u32, other: u32, step: u32) -> Step {
     }
 }
 
+// Calls with numbers that name nothing, beside one that names a cell and one that names a job.
 #[test]
 fn calls(rt: HostRuntime) {
+    let mut checks = Checks::new();
     let mut words = [4; CELLS as usize];
-    let (table, good) = call_all(WordTable::new(&mut words));
-    drop(table);
-    assert!(rt; good);
-}
-
-// Calls with numbers that name nothing, beside one that names a cell and one that names a job.
-fn call_all<S: Store>(store: S) -> (S, bool) {
-    let mut intake = Intake::new(store, 1);
-    let admitted = intake.admit(&[Step::End]) == Ok(1);
+    let mut intake = Intake::new(WordTable::new(&mut words), 1);
+    checks.that("calls", intake.admit(&[Step::End]) == Ok(1));
     let mut run = intake.seal();
-    let refused = refuses_jobs(&mut run) && refuses_cells(&run);
-    let answered = run.cell(1) == Ok(4) && run.starts(1) == Ok(0);
-    (run.close(), admitted && refused && answered)
-}
-
-fn refuses_jobs<S: Store>(run: &mut Run<S>) -> bool {
-    let mut good = true;
-    for job in [0, 2, 17, u32::MAX] {
-        good = good && matches!(run.turn(job), Err(Refusal::NoSuchJob));
-        good = good && run.starts(job) == Err(Refusal::NoSuchJob);
-    }
-    good
-}
-
-fn refuses_cells<S: Store>(run: &Run<S>) -> bool {
-    let mut good = true;
+    refuses_jobs(&mut checks, &mut run);
     for cell in [CELLS, 65_536, u32::MAX] {
-        good = good && run.cell(cell) == Err(Refusal::NoSuchCell);
+        checks.that("calls", run.cell(cell) == Err(Refusal::NoSuchCell));
     }
-    good
+    checks.that("calls", run.cell(1) == Ok(4) && run.starts(1) == Ok(0));
+    drop(run.close());
+    assert_eq!(rt; checks.failed(), None);
+}
+
+fn refuses_jobs<S: Store>(checks: &mut Checks, run: &mut Run<S>) {
+    for job in [0, 2, 17, u32::MAX] {
+        checks.that(
+            "refuses jobs",
+            matches!(run.turn(job), Err(Refusal::NoSuchJob)),
+        );
+        checks.that("refuses jobs", run.starts(job) == Err(Refusal::NoSuchJob));
+    }
 }

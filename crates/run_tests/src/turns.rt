@@ -1,0 +1,31 @@
+use model::{Applied, Rule};
+use run::run::Run;
+use store::Store;
+
+// More turns than any run here needs.
+const MOST_TURNS: u32 = 2000;
+
+// Gives a job turns until it has none to take, and tells how many applied a rule.
+pub(crate) fn settled_turns<S: Store>(run: &mut Run<S>, job: u32) -> u32 {
+    turns(run, job, MOST_TURNS)
+}
+
+// Gives a job at most so many turns, and tells how many applied a rule.
+pub(crate) fn turns<S: Store>(run: &mut Run<S>, job: u32, most: u32) -> u32 {
+    for turns in 0..most {
+        if !matches!(run.turn(job), Ok(Some(_))) {
+            return turns;
+        }
+    }
+    most
+}
+
+// Gives a job turns until it takes the right.
+pub(crate) fn takes_right<S: Store>(run: &mut Run<S>, job: u32) -> bool {
+    for _ in 0..MOST_TURNS {
+        if let Ok(Some(Applied { rule: Rule::V3, .. })) = run.turn(job) {
+            return true;
+        }
+    }
+    false
+}
