@@ -1,10 +1,9 @@
 -- What the records in force mean, before and after a step of the code.
-use Rattle.std.proofs.Common.{◌≡◌, ℕ, ◌+◌, ◌-◌, ◌^◌, ◌<◌, ◌≤◌, true, false, ltb, List, [], ◌∷◌, ◌++◌, length, get_or, take, drop, set, Some, unwrap_or, sym, refl, ap, ◌∙◌, ⊎_elim, arith, length-set}
-use native.Mathlib.Nat.{sub-zero}
+use Rattle.std.proofs.Common.{◌≡◌, ℕ, ◌+◌, ◌^◌, ◌<◌, ◌≤◌, true, false, ltb, List, [], ◌∷◌, ◌++◌, length, get_or, take, drop, set, Some, unwrap_or, sym, refl, ap, ◌∙◌, ⊎_elim, arith, length-set}
 use lib.Seq.{take-set-lt}
 use Rattle.std.specs.List.{AllByRecursion as All}
 use Rattle.std.proofs.ByRecursion.{All-set, All-push, All-get_or}
-use Rattle.std.proofs.lemmas.List.{get_or-take, drop_more, drop_all, drop-take, drop-set-lt, take_more_set, get_or-replicate, get_or_past, length-replicate, length-take, length-take-le, append_assoc, append-nil}
+use Rattle.std.proofs.lemmas.List.{get_or-take, drop_more, drop_all, drop-set-lt, take_more_set, get_or-replicate, get_or_past, length-replicate, length-take, length-take-le, append_assoc, append-nil}
 use Rattle.std.proofs.lemmas.Bool.{cases_Bool, cases_lt, lt-ltb, le-ltb}
 use Rattle.store.specs.declared.change.Change.{Change}
 use Rattle.store.specs.Cells.{cell_at}
@@ -28,10 +27,6 @@ all_newest P (c ∷ cs) h =
     (λ (t : touches cs c.cell ≡ true). rw t (all_newest P cs h.1))
     (λ (t : touches cs c.cell ≡ false). rw t (h.0, all_newest P cs h.1))
     (cases_Bool (touches cs c.cell))
-
--- The records in force from the n-th on, as a slice of all.
-pub part_later : (xs : List Change) (used n : ℕ) → n ≤ used → take (used - n) (drop n xs) ≡ drop n (take used xs)
-part_later xs used n l = let e : n + (used - n) ≡ used = omega arith in sym (drop-take n (used - n) xs) ∙ ap (λ (m : ℕ). drop n (take m xs)) e
 
 -- The records in force from the i-th on begin with it.
 here : (ys : List Change) (used i : ℕ) (d : Change) → used ≤ length ys → i < used → drop i (take used ys) ≡ get_or ys i d ∷ drop (i + 1) (take used ys)
@@ -121,7 +116,7 @@ fit_zeros n k = rw (zero_at n k) (omega arith)
 pub fit_cells : (xs : List Change) (used : ℕ) → sound (cell_count (length xs)) (take used xs) ≡ true → (k : ℕ) → get_or (list_cells xs used) k 0 < 2 ^ 32
 fit_cells xs used h = let count = cell_count (length xs) in fit_replay count (zeros count) (take used xs) (fit_zeros count) (all_from_sound count (take used xs) h)
 
-pub get_inside : (xs : List Change) (used cell : ℕ) → cell < length (list_cells xs used) → Some (unwrap_or (newest_number (take (used - 0) xs) cell) 0) ≡ cell_at (list_cells xs used) cell
+pub get_inside : (xs : List Change) (used cell : ℕ) → cell < length (list_cells xs used) → Some (unwrap_or (newest_number (take used xs) cell) 0) ≡ cell_at (list_cells xs used) cell
 get_inside xs used cell l =
     let count = cell_count (length xs) in
-    rw (sub-zero used, lt-ltb cell (length (list_cells xs used)) l, replay-at (zeros count) (take used xs) cell (omega (arith, length-cells xs used, length-zeros count)), zero_at count cell)
+    rw (lt-ltb cell (length (list_cells xs used)) l, replay-at (zeros count) (take used xs) cell (omega (arith, length-cells xs used, length-zeros count)), zero_at count cell)

@@ -21,7 +21,7 @@ impl<'a> Store for ChangeList<'a> {
         if cell as usize >= self.count() {
             return None;
         }
-        let number = newest_number(&self.records[0..self.used], cell);
+        let number = newest_number(self.in_force(), cell);
         Some(number.unwrap_or(0))
     }
 
@@ -43,12 +43,19 @@ impl<'a> Store for ChangeList<'a> {
 }
 
 impl ChangeList<'_> {
+    // The records in force.
+    fn in_force(&self) -> &[Change]
+        ensures { result.now ≡ in_force self.now }
+    {
+        &self.records[..self.used]
+    }
+
     // Whether no later record in force is of the same cell.
     fn is_newest(&self, i: usize) -> bool
         requires { i < self.now.used }
         ensures { result ≡ not (touches (drop (i + 1) (in_force self.now)) (get_or self.now.records.now i (record { cell = 0; number = 0 })).cell) }
     {
-        !is_changed(&self.records[i + 1..self.used], self.records[i].cell)
+        !is_changed(&self.in_force()[i + 1..], self.records[i].cell)
     }
 
     // Where no record is free, keeps only the newest record of each cell, which frees one.
@@ -62,6 +69,7 @@ impl ChangeList<'_> {
         if self.used < self.records.len() {
             return;
         }
+        // The indices stay: the lent records are fixed memory, and no slice has a method that moves kept items to its front.
         let mut len = 0;
         for i in 0..self.used {
             if self.is_newest(i) {

@@ -28,7 +28,6 @@ impl<'a> ChangeList<'a> {
         ensures records { result.now ≡ self.entry.records.now }
         ensures loan { result.ghost_name ≡ self.entry.records.ghost_name }
     {
-        let records = self.records;
-        records
+        self.records
     }
 }

@@ -13,7 +13,7 @@ use store::change::Change;
 // and once no record is free, only the newest record of each cell is kept.
 #[derive(Drop)]
 pub struct ChangeList<'a> {
-    // The first `used` are in force, the newest last.
+    // The first `used` are in force, the newest last. The records are lent, so their count stands beside them.
     records: &'a mut [Change],
     used: usize,
     // The records in force are among those lent, and each is of a cell below the count.

@@ -1,7 +1,8 @@
 -- What a written number is, column by column.
-use Rattle.std.proofs.Common.{◌≡◌, ℕ, zero, suc, ◌+◌, ◌-◌, ◌*◌, ◌/◌, ◌%◌, ◌^◌, ◌<◌, ◌≤◌, cond, List, [], ◌∷◌, ◌++◌, length, get_or, take, drop, replicate, decimal, sym, refl, ap, ◌∙◌, inl, inr, append_assoc, pow-suc, arith}
+use Rattle.std.proofs.Common.{◌≡◌, ℕ, zero, suc, ◌+◌, ◌-◌, ◌*◌, ◌/◌, ◌%◌, ◌^◌, ◌<◌, ◌≤◌, cond, List, [], ◌∷◌, ◌++◌, length, get_or, take, reverse, replicate, decimal, sym, refl, ap, ◌∙◌, inl, inr, append_assoc, pow-suc, arith}
+use Rattle.std.specs.List.{fold}
 use Rattle.std.proofs.lemmas.Fmt.{decimal_digit, decimal_step, decimal_by_steps}
-use Rattle.std.proofs.lemmas.List.{length_push, take_all}
+use Rattle.std.proofs.lemmas.List.{get_or-reverse, get_or-take, length-reverse, length-take-le, length_push, take_all}
 use Rattle.std.proofs.lemmas.Bool.{ne_eqb, cases_lt}
 use Rattle.report.specs.Text.{field}
 use Rattle.listing.specs.Columns.{left_of, shifted, value_from}
@@ -35,10 +36,9 @@ value_blanks (suc k) ds = value_blanks k ds
 pub value_field : (n : ℕ) → n < 2 ^ 32 → value_from 0 (field n) ≡ n
 value_field n h = value_blanks (11 - length (decimal n)) (decimal n) ∙ value_decimal n (omega arith) h
 
-pub value_next : (v k d : ℕ) (bs : List ℕ) → k < length bs → value_from v (drop k bs) ≡ value_from (shifted v (get_or bs k d)) (drop (suc k) bs)
-value_next v k d [] h = absurd (omega arith)
-value_next v zero d (b ∷ bs) h = refl
-value_next v (suc k) d (b ∷ bs) h = value_next v k d bs (omega arith)
+pub value-fold : (v : ℕ) (bs : List ℕ) → value_from v bs ≡ fold shifted v bs
+value-fold v [] = refl
+value-fold v (b ∷ bs) = value-fold (shifted v b) bs
 
 -- The columns before the last one.
 abbrev pub columns : ℕ → ℕ → List ℕ
@@ -119,6 +119,16 @@ pub take-push : (xs : List ℕ) (k d : ℕ) → k < length xs → take (suc k) x
 take-push [] k d h = absurd (omega arith)
 take-push (x ∷ xs) zero d h = refl
 take-push (x ∷ xs) (suc k) d h = ap (λ ys. x ∷ ys) (take-push xs k d (omega arith))
+
+-- The columns before the last one, from the right.
+pub column_at : (bytes : List ℕ) (k d : ℕ) → length bytes ≡ 11 → k < length (reverse (take 10 bytes)) → (k < 10) × (get_or (reverse (take 10 bytes)) k d ≡ get_or bytes (9 - k) d)
+column_at bytes k d wide l =
+    let ten : length (take 10 bytes) ≡ 10 = length-take-le 10 bytes (omega arith) in
+    let below : k < length (take 10 bytes) = omega (arith, length-reverse (take 10 bytes)) in
+    let place : length (take 10 bytes) - 1 - k ≡ 9 - k = omega arith in (
+      omega arith,
+      get_or-reverse (take 10 bytes) k d below ∙ ap (λ (i : ℕ). get_or (take 10 bytes) i d) place ∙ get_or-take 10 bytes (9 - k) d (omega arith),
+    )
 
 -- So far the field is what n is written as; it remains that its first c columns are those of the rest.
 pub record Leaves (bytes : List ℕ) (n c rest : ℕ) : Type 0 where

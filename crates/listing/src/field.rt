@@ -10,22 +10,16 @@ pub fn number_in(field: &[u8]) -> Option<u32>
     ensures { MatchOption result ((n : ℕ) → n < 2 ^ 32 → field.now ≢ text.field n) (λ n. field.now ≡ text.field n) }
 {
     let number = value(field);
-    if shows(field, number) {
-        Some(number)
-    } else {
-        None
-    }
+    shows(field, number).then_some(number)
 }
 
 // What the columns come to if they are digits, with blanks before them; of no use otherwise.
 fn value(field: &[u8]) -> u32
     ensures { result ≡ value_from 0 field.now }
 {
-    let mut value = 0u32;
-    for k in 0..field.len() {
-        value = value.wrapping_mul(10).wrapping_add((field[k] % 16) as u32);
-    }
-    value
+    field.iter().fold(0u32, |value, column| {
+        value.wrapping_mul(10).wrapping_add(u32::from(*column % 16))
+    })
 }
 
 // Whether the field is what the number is written as.
@@ -40,8 +34,8 @@ fn shows(field: &[u8], number: u32) -> bool
         return false;
     }
     let mut rest = number / 10;
-    for k in 0..10 {
-        if field[9 - k] != left_of(rest) {
+    for column in field[..10].iter().rev() {
+        if *column != left_of(rest) {
             return false;
         }
         rest /= 10;

@@ -1,1 +1,1 @@
-mod Widths
+mod Padded

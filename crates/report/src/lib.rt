@@ -1,7 +1,7 @@
 #![tactic(auto)]
 
 ghost use Rattle.std.specs.Prelude.{◌≡◌, Some};
-ghost use Rattle.report.specs.Text.{blanks, field, line_text, fault_line_text};
+ghost use Rattle.report.specs.Text.{field, line_text, fault_line_text};
 
 use std::fmt;
 
@@ -42,9 +42,7 @@ impl fmt::Display for Field {
     ghost output = { λ x. Some (field x.0) };
 
     fn fmt<W: fmt::Write>(&self, f: &mut fmt::Formatter<W>) -> fmt::Result {
-        let n = self.0;
-        let pad = blanks_before(n);
-        write!(f, "{pad}{n}")
+        write!(f, "{:>11}", self.0)
     }
 }
 
@@ -53,26 +51,16 @@ impl fmt::Display for Line {
 
     fn fmt<W: fmt::Write>(&self, f: &mut fmt::Formatter<W>) -> fmt::Result {
         match *self {
-            Line::Committed { place, job } => {
-                let a = Field(place);
-                let b = Field(job);
-                write!(f, "D{a}{b}")
-            }
+            Line::Committed { place, job } => { write!(f, "D{}{}", Field(place), Field(job)) }
             Line::Job {
                 job,
                 starts,
                 committed,
             } => {
-                let a = Field(job);
-                let b = Field(starts);
-                let c = Field(u32::from(committed));
-                write!(f, "N{a}{b}{c}")
+                let committed = Field(u32::from(committed));
+                write!(f, "N{}{}{committed}", Field(job), Field(starts))
             }
-            Line::Cell { cell, number } => {
-                let a = Field(cell);
-                let b = Field(number);
-                write!(f, "C{a}{b}")
-            }
+            Line::Cell { cell, number } => { write!(f, "C{}{}", Field(cell), Field(number)) }
         }
     }
 }
@@ -81,35 +69,11 @@ impl fmt::Display for FaultLine {
     ghost output = { λ x. Some (fault_line_text x) };
 
     fn fmt<W: fmt::Write>(&self, f: &mut fmt::Formatter<W>) -> fmt::Result {
-        let a = Field(self.number);
-        let b = Field(self.line);
-        let c = Field(self.column);
-        write!(f, "!{a}{b}{c}")
-    }
-}
-
-fn blanks_before(n: u32) -> &'static str
-    ensures { result.now ≡ blanks n }
-{
-    if n < 10 {
-        "          "
-    } else if n < 100 {
-        "         "
-    } else if n < 1_000 {
-        "        "
-    } else if n < 10_000 {
-        "       "
-    } else if n < 100_000 {
-        "      "
-    } else if n < 1_000_000 {
-        "     "
-    } else if n < 10_000_000 {
-        "    "
-    } else if n < 100_000_000 {
-        "   "
-    } else if n < 1_000_000_000 {
-        "  "
-    } else {
-        " "
+        let FaultLine {
+            number,
+            line,
+            column,
+        } = *self;
+        write!(f, "!{}{}{}", Field(number), Field(line), Field(column))
     }
 }

@@ -2,7 +2,7 @@ ghost use Rattle.std.specs.Prelude.{◌≡◌};
 ghost use Rattle.store.specs.Changes.{newest_number, touches};
 
 // A cell and the number that it is set to.
-#[derive(Clone, Copy)]
+#[derive(Clone, Copy, Debug, Default, PartialEq)]
 pub struct Change {
     pub cell: u32,
     pub number: u32,
@@ -12,22 +12,13 @@ pub struct Change {
 pub fn is_changed(changes: &[Change], cell: u32) -> bool
     ensures { result ≡ touches changes.now cell }
 {
-    for change in changes {
-        if change.cell == cell {
-            return true;
-        }
-    }
-    false
+    changes.iter().any(|change| change.cell == cell)
 }
 
 // The number of the newest change to the cell, if there is one.
 pub fn newest_number(changes: &[Change], cell: u32) -> Option<u32>
     ensures { result ≡ newest_number changes.now cell }
 {
-    for i in (0..changes.len()).rev() {
-        if changes[i].cell == cell {
-            return Some(changes[i].number);
-        }
-    }
-    None
+    let newest = changes.iter().rev().find(|change| change.cell == cell);
+    newest.map(|change| change.number)
 }

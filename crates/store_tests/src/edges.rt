@@ -66,7 +66,11 @@ fn change_list_of(rt: &impl Abort, heap: Global, len: usize, count: u32) -> Resu
     let records = list.into_records();
     if count > 0 {
         assert!(rt; used > 0);
-        assert!(rt; records[used - 1].cell == 8 % count && records[used - 1].number == 8);
+        let newest = Change {
+            cell: 8 % count,
+            number: 8,
+        };
+        assert_eq!(rt; records[used - 1], newest);
     }
     Ok(())
 }

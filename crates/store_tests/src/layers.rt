@@ -1,5 +1,6 @@
-use crate::recorder::{Log, MOST_SETS, Recorder};
+use crate::recorder::{Log, Recorder};
 use change_list::ChangeList;
+use std::process::Abort;
 use store::Store;
 use store::change::Change;
 use store::word_table::WordTable;
@@ -15,77 +16,71 @@ const BEYOND: u32 = 70;
 fn sets_below(rt: HostRuntime) {
     for (different, sets, again) in [(1, 1, 0), (32, 32, 0), (33, 34, 33), (34, 35, 34)] {
         let mut words = [0; CELLS];
-        let (table, log, refused) = set_different(WordTable::new(&mut words), different);
-        drop(table);
-        assert!(rt; refused);
-        assert!(rt; log.len == sets && sets <= MOST_SETS);
-        for i in 0..sets {
-            let set = log.sets[i];
-            let expected = if i == again { (0, 2) } else { (i as u32, 1) };
-            assert_eq!(rt; (set.cell, set.number), expected);
+        let log = set_different(&rt, WordTable::new(&mut words), different);
+        assert_eq!(rt; log.sets.len(), sets);
+        assert_eq!(rt; log.missed, 0);
+        for (i, set) in log.sets.iter().enumerate() {
+            let (cell, number) = if i == again { (0, 2) } else { (i as u32, 1) };
+            assert_eq!(rt; *set, Change { cell, number });
         }
     }
 }
 
 // Sets so many different cells to 1, and then cell 0 to 2: up to 32 it is still held and keeps its place, else it is
-// held anew. Gives the store back with the log of what was set on it, and whether a set beyond the count was refused.
-fn set_different<S: Store>(below: S, different: u32) -> (S, Log, bool) {
+// held anew. A set beyond the count is refused. Gives the log of what was set on the store.
+fn set_different<S: Store + Drop>(rt: &impl Abort, below: S, different: u32) -> Log {
     let mut layer = WriteBack::new(Recorder::new(below));
     for cell in 0..different {
         layer.set(cell, 1);
     }
     layer.set(0, 2);
-    let refused = !layer.set(BEYOND, 1) && layer.get(BEYOND).is_none();
-    let Recorder { inner, log } = layer.into_store();
-    (inner, log, refused)
+    assert!(rt; !layer.set(BEYOND, 1));
+    assert!(rt; layer.get(BEYOND).is_none());
+    let Recorder { inner: _, log } = layer.into_store();
+    log
 }
 
 #[test]
 fn over_word_table(rt: HostRuntime) {
     let mut words = [0; CELLS];
-    assert!(rt; two_layers(WordTable::new(&mut words)));
+    two_layers(&rt, WordTable::new(&mut words));
 }
 
 #[test]
 fn over_change_list(rt: HostRuntime) {
     let mut records = [Change { cell: 0, number: 9 }; CELLS + 1];
-    assert!(rt; two_layers(ChangeList::new(&mut records)));
+    two_layers(&rt, ChangeList::new(&mut records));
 }
 
-// Drives two layers over a store, and says whether they, and the store once they are taken apart, hold what plain
-// numbers do. More than 32 different cells are set, so that cells are set below at both levels.
-fn two_layers<S: Store + Drop>(below: S) -> bool {
+// Drives two layers over a store. They, and the store once they are taken apart, hold what plain numbers do. More than
+// 32 different cells are set, so that cells are set below at both levels.
+fn two_layers<S: Store + Drop>(rt: &impl Abort, below: S) {
     let mut numbers = [0; CELLS];
     let mut top = WriteBack::new(WriteBack::new(below));
-    let driven = drive(&mut top, &mut numbers) && agrees(&top, &numbers);
+    drive(rt, &mut top, &mut numbers);
+    agrees(rt, &top, &numbers);
     let middle = top.into_store();
-    let taken_apart = agrees(&middle, &numbers);
+    agrees(rt, &middle, &numbers);
     let store = middle.into_store();
-    driven && taken_apart && agrees(&store, &numbers)
+    agrees(rt, &store, &numbers);
 }
 
-// Sets cells all over the store and just beyond it, and says whether each was answered rightly.
-fn drive<S: Store>(store: &mut S, numbers: &mut [u32; CELLS]) -> bool {
-    let mut same = true;
+// Sets cells all over the store and just beyond it, each of which has to be answered rightly.
+fn drive<S: Store>(rt: &impl Abort, store: &mut S, numbers: &mut [u32; CELLS]) {
     for n in 0..400u32 {
         let cell = n * 29 % (BEYOND + 1);
-        let is_set = store.set(cell, n);
-        if cell < BEYOND {
-            numbers[cell as usize] = n;
-        }
-        if is_set != (cell < BEYOND) {
-            same = false;
+        assert_eq!(rt; store.set(cell, n), cell < BEYOND);
+        if let Some(number) = numbers.get_mut(cell as usize) {
+            *number = n;
         }
     }
-    same
 }
 
-// Whether the store has these numbers, and no more.
-fn agrees<S: Store>(store: &S, numbers: &[u32; CELLS]) -> bool {
-    for cell in 0..BEYOND {
-        if store.get(cell) != Some(numbers[cell as usize]) {
-            return false;
-        }
+// The store has these numbers, and no more.
+fn agrees<S: Store>(rt: &impl Abort, store: &S, numbers: &[u32; CELLS]) {
+    assert_eq!(rt; store.count(), CELLS);
+    for (cell, number) in (0..BEYOND).zip(numbers) {
+        assert_eq!(rt; store.get(cell), Some(*number));
     }
-    store.count() == CELLS && store.get(BEYOND).is_none()
+    assert!(rt; store.get(BEYOND).is_none());
 }

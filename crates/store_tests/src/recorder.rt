@@ -1,20 +1,23 @@
+ghost use Rattle.std.specs.Prelude.{◌≡◌, []};
+
+use arrayvec::ArrayVec;
 use store::Store;
 use store::change::Change;
 
 // How many sets a log has room for.
-pub const MOST_SETS: usize = 80;
+const MOST_SETS: usize = 80;
 
-// What was set on a store, in order; sets past the room are counted and not kept.
-#[derive(Clone, Copy)]
-pub struct Log {
-    pub sets: [Change; MOST_SETS],
-    pub len: usize,
+// What was set on a store, in order, and how many sets found no room.
+#[derive(Drop)]
+pub(crate) struct Log {
+    pub(crate) sets: ArrayVec<Change, MOST_SETS>,
+    pub(crate) missed: usize,
 }
 
 // A store that keeps a log of what is set on it.
-pub struct Recorder<S: Store> {
-    pub inner: S,
-    pub log: Log,
+pub(crate) struct Recorder<S: Store> {
+    pub(crate) inner: S,
+    pub(crate) log: Log,
 }
 
 impl<S: Store> Store for Recorder<S> {
@@ -38,13 +41,16 @@ impl<S: Store> Store for Recorder<S> {
 
 impl<S: Store> Recorder<S> {
     // A recorder with nothing in its log.
-    pub fn new(inner: S) -> Recorder<S> {
-        let none = Change { cell: 0, number: 0 };
+    pub(crate) fn new(inner: S) -> Recorder<S>
+        ensures inner { result.inner ≡ inner }
+        ensures sets { result.log.sets.items ≡ [] }
+        ensures missed { result.log.missed ≡ 0 }
+    {
         Recorder {
             inner,
             log: Log {
-                sets: [none; MOST_SETS],
-                len: 0,
+                sets: ArrayVec::new(),
+                missed: 0,
             },
         }
     }
@@ -52,9 +58,8 @@ impl<S: Store> Recorder<S> {
 
 impl Log {
     fn add(&mut self, change: Change) {
-        if self.len < MOST_SETS {
-            self.sets[self.len] = change;
+        if self.sets.try_push(change).is_err() {
+            self.missed = self.missed.saturating_add(1);
         }
-        self.len = self.len.saturating_add(1);
     }
 }

@@ -1,7 +1,8 @@
 -- The meaning of a layer: the cells below under the held changes.
-use Rattle.std.proofs.Common.{◌≡◌, ℕ, ◌+◌, ◌<◌, ◌≤◌, Bool, true, false, not, ◌||◌, eqb, List, [], ◌∷◌, length, get_or, drop, set, Some, None, sym, refl, ap, ◌∙◌, ⊎_elim, arith}
-use Rattle.std.proofs.lemmas.List.{drop_all, drop_more, set-set}
+use Rattle.std.proofs.Common.{◌≡◌, ℕ, ◌<◌, Bool, true, false, not, ◌||◌, eqb, List, [], ◌∷◌, length, get_or, drop, set, Some, None, Option, unwrap_or, sym, refl, ⊎_elim, arith}
+use Rattle.std.proofs.lemmas.List.{set-set}
 use Rattle.std.proofs.lemmas.Bool.{cases_eq, cases_Bool, eq-eqb, ne_eqb, lt-ltb, and_from, and_parts, not-true}
+use Rattle.std.specs.Option.{option_or}
 use Rattle.store.specs.declared.change.Change.{Change}
 use Rattle.store.specs.Cells.{cell_at}
 use Rattle.store.specs.Changes.{distinct, newest_number, replay, touches}
@@ -60,15 +61,12 @@ replay-set cells below cs held cell number h b e =
     (λ (f : full cs cell ≡ false). rw (b, e, f) (replay-holding cells cs cell number h))
     (cases_Bool (full cs cell))
 
-pub get_held : (cells : List ℕ) (cs : List Change) (cell number : ℕ) → cell < length (replay cells cs) → Some number ≡ newest_number cs cell → Some number ≡ cell_at (replay cells cs) cell
-get_held cells cs cell number l h = rw (lt-ltb cell (length (replay cells cs)) l, replay-at cells cs cell (omega (arith, length-replay cells cs)), ← h)
+layered : (o : Option ℕ) (cells : List ℕ) (cell : ℕ) → cell < length cells → option_or o (cell_at cells cell) ≡ Some (unwrap_or o (get_or cells cell 0))
+layered None cells cell l = rw (lt-ltb cell (length cells) l)
+layered (Some n) cells cell l = refl
 
-pub get_below : (cells : List ℕ) (cs : List Change) (cell : ℕ) → cell < length (replay cells cs) → None ≡ newest_number cs cell → cell_at cells cell ≡ cell_at (replay cells cs) cell
-get_below cells cs cell l h = rw (length-replay cells cs, replay-at cells cs cell (omega (arith, length-replay cells cs)), ← h)
-
--- One held change after another is made below.
-pub replay_next : (cells after : List ℕ) (cs : List Change) (i : ℕ) (d : Change) → i < length cs → after ≡ set cells (get_or cs i d).cell (get_or cs i d).number → replay after (drop (i + 1) cs) ≡ replay cells (drop i cs)
-replay_next cells after cs i d l e = rw (e, drop_more cs i d l)
-
-pub replay_done : (cells before : List ℕ) (cs held : List Change) (i : ℕ) → length cs ≤ i → cs ≡ held → replay cells (drop i cs) ≡ replay before cs → cells ≡ replay before held
-replay_done cells before cs held i l e h = (rw (drop_all i cs l) at h) ∙ ap (replay before) e
+-- A held number is what the layer means, and else the number below.
+pub get_layer : (cells : List ℕ) (cs : List Change) (cell : ℕ) → cell < length (replay cells cs) → option_or (newest_number cs cell) (cell_at cells cell) ≡ cell_at (replay cells cs) cell
+get_layer cells cs cell l =
+    let same = length-replay cells cs in
+    rw (lt-ltb cell (length (replay cells cs)) l, replay-at cells cs cell (omega arith)) (layered (newest_number cs cell) cells cell (omega arith))

@@ -1,12 +1,12 @@
 -- What a write-back layer holds, as a list of changes, the one held longest first. Assumes nothing.
-use Rattle.std.specs.Prelude.{ℕ, Bool, cond, not, ◌&&◌, List, [], ◌∷◌, length, take, drop, Some, None, Option, ◌==◌, nat_le, slice_set}
+use Rattle.std.specs.Prelude.{ℕ, Bool, cond, not, ◌&&◌, List, [], ◌∷◌, length, drop, Some, None, Option, ◌==◌, nat_le, slice_set}
 use Rattle.store.specs.declared.change.Change.{Change}
 use Rattle.store.specs.Changes.{touches}
 use Rattle.write_back.specs.declared.held.Held.{Held}
 
 -- The changes that a table of held cells holds.
 abbrev pub held_in : Held → List Change
-held_in held = take held.len held.changes
+held_in held = held.changes.items
 
 -- Whether a cell finds no room: 32 others are held.
 abbrev pub full : List Change → ℕ → Bool

@@ -1,8 +1,9 @@
-ghost use Rattle.std.specs.Prelude.{◌≡◌, ◌^◌, ◌≤◌, true, take};
+ghost use Rattle.std.specs.Prelude.{◌≡◌, ◌^◌, true};
 ghost use Rattle.store.specs.Changes.{distinct, sound};
 
 mod table;
 
+use arrayvec::ArrayVec;
 use store::change::Change;
 
 // How many cells are held at most.
@@ -11,11 +12,8 @@ const MOST_HELD: usize = 32;
 // The cells that a layer holds, the one held longest first.
 #[derive(Drop)]
 pub(crate) struct Held {
-    // The first `len` are held.
-    changes: [Change; MOST_HELD],
-    len: usize,
+    changes: ArrayVec<Change, MOST_HELD>,
     // No cell is held twice, and each number has 32 bits.
-    ghost few: { len ≤ 32 },
-    ghost apart: { distinct (take len changes) ≡ true },
-    ghost sound: { sound (2 ^ 32) (take len changes) ≡ true },
+    ghost apart: { distinct changes.items ≡ true },
+    ghost sound: { sound (2 ^ 32) changes.items ≡ true },
 }

@@ -8,7 +8,6 @@ mod held;
 
 use held::Held;
 use store::Store;
-use store::change::Change;
 
 // A layer over any store, again a store, that keeps up to 32 set cells to itself. It means the store below with these
 // cells replaced. It is not `Drop`: only `into_store` lets go of it, so that no held number can be lost.
@@ -30,10 +29,8 @@ impl<S: Store> Store for WriteBack<S> {
         if cell as usize >= self.count() {
             return None;
         }
-        match self.held.number_of(cell) {
-            Some(number) => Some(number),
-            None => self.below.get(cell),
-        }
+        let held = self.held.number_of(cell);
+        held.or_else(|| self.below.get(cell))
     }
 
     // Holds the cell, and sets nothing below but, before a 33rd different cell is held, the one held longest. A held
@@ -48,8 +45,9 @@ impl<S: Store> Store for WriteBack<S> {
         if cell as usize >= self.count() {
             return false;
         }
-        let oldest = self.held.make_room(cell);
-        set_below(&mut self.below, oldest);
+        if let Some(oldest) = self.held.make_room(cell) {
+            self.below.set(oldest.cell, oldest.number);
+        }
         self.held.put(cell, number);
         true
     }
@@ -73,20 +71,9 @@ impl<S: Store> WriteBack<S> {
         ensures loan { S.Store.loan result ≡ S.Store.loan self.below }
     {
         let WriteBack { mut below, held } = self;
-        let changes = held.changes();
-        for change in changes {
+        for change in held.changes() {
             below.set(change.cell, change.number);
         }
         below
-    }
-}
-
-// Makes a change in a store, if there is one.
-fn set_below<S: Store>(below: &mut S, change: Option<Change>)
-    ensures after { S.Store.cells below.new ≡ set_below (S.Store.cells below.old) change }
-    ensures same { S.Store.loan below.new ≡ S.Store.loan below.old }
-{
-    if let Some(c) = change {
-        below.set(c.cell, c.number);
     }
 }

@@ -1,8 +1,9 @@
-ghost use Rattle.std.specs.Prelude.{◌≡◌, ◌<◌, false, [], length, get_or, take, MatchOption};
-ghost use Rattle.store.specs.Changes.{newest_number, touches};
+ghost use Rattle.std.specs.Prelude.{◌≡◌, ◌≤◌, ◌==◌, false, [], length, position};
+ghost use Rattle.store.specs.Changes.{newest_number};
 ghost use Rattle.write_back.specs.Holding.{evicted, full, held_in, holding, remaining};
 
-use super::{Held, MOST_HELD};
+use super::Held;
+use arrayvec::ArrayVec;
 use store::change::{Change, is_changed, newest_number};
 
 impl Held {
@@ -10,18 +11,17 @@ impl Held {
     pub(crate) fn new() -> Held
         ensures { held_in result ≡ [] }
     {
-        let unused = Change { cell: 0, number: 0 };
         Held {
-            changes: [unused; MOST_HELD],
-            len: 0,
+            changes: ArrayVec::new(),
         }
     }
 
     // What is held, the change held longest first.
     pub(crate) fn changes(&self) -> &[Change]
-        ensures { result.now ≡ held_in self.now }
+        ensures value { result.now ≡ held_in self.now }
+        ensures few { length result.now ≤ 32 }
     {
-        &self.changes[0..self.len]
+        self.changes.as_slice()
     }
 
     // The held number of a cell.
@@ -35,14 +35,13 @@ impl Held {
     pub(crate) fn make_room(&mut self, cell: u32) -> Option<Change>
         ensures value { result ≡ evicted (held_in self.old) cell }
         ensures after { held_in self.new ≡ remaining (held_in self.old) cell }
+        ensures room { full (held_in self.new) cell ≡ false }
     {
-        if !self.is_full(cell) {
-            return None;
+        if self.is_full(cell) {
+            Some(self.changes.remove(0))
+        } else {
+            None
         }
-        let oldest = self.changes[0];
-        self.changes.rotate_left(1);
-        self.len -= 1;
-        Some(oldest)
     }
 
     // Holds the number for the cell, for which there has to be room.
@@ -51,34 +50,24 @@ impl Held {
         ensures { held_in self.new ≡ holding (held_in self.old) cell number }
     {
         let change = Change { cell, number };
-        if let Some(i) = position(self.changes(), cell) {
-            self.changes[i] = change;
-            return;
+        match self.place_of(cell) {
+            Some(i) => self.changes[i] = change,
+            None => self.changes.push(change),
         }
-        self.changes[self.len] = change;
-        self.len += 1;
     }
 
     // Whether the cell finds no room.
     fn is_full(&self, cell: u32) -> bool
-        ensures { result ≡ full (held_in self.now) cell }
+        ensures value { result ≡ full (held_in self.now) cell }
+        ensures few { length (held_in self.now) ≤ 32 }
     {
-        let held = self.changes();
-        if held.len() < MOST_HELD {
-            return false;
-        }
-        !is_changed(held, cell)
+        self.changes.is_full() && !is_changed(self.changes(), cell)
     }
-}
 
-// The place of the first change to the cell.
-fn position(changes: &[Change], cell: u32) -> Option<usize>
-    ensures { MatchOption result (touches changes.now cell ≡ false) (λ i. (i < length changes.now) × (touches (take i changes.now) cell ≡ false) × ((get_or changes.now i (record { cell = 0; number = 0 })).cell ≡ cell)) }
-{
-    for i in 0..changes.len() {
-        if changes[i].cell == cell {
-            return Some(i);
-        }
+    // Where the change to the cell stands, if the cell is held.
+    fn place_of(&self, cell: u32) -> Option<usize>
+        ensures { result ≡ position (λ change. change.cell == cell) (held_in self.now) }
+    {
+        self.changes().iter().position(|change| change.cell == cell)
     }
-    None
 }

@@ -1,4 +1,4 @@
-use Rattle.std.proofs.Common.{◌≡◌, ◌+◌, ◌<◌, length, get_or, take, drop, sym, refl, ap, ◌∙◌, arith, length-set}
+use Rattle.std.proofs.Common.{◌≡◌, ◌+◌, ◌<◌, length, get_or, take, drop, sym, ap, ◌∙◌, arith, length-set}
 use Rattle.std.proofs.lemmas.List.{length-take-le}
 use Rattle.std.proofs.lemmas.Bool.{not-true, not-false}
 use Rattle.store.specs.declared.change.Change.{Change}
@@ -9,28 +9,11 @@ use Rattle.change_list.proofs.Kept.{turn_keeps, turn_leaves, sound_moved, loop_o
 use Rattle.change_list.proofs.ChangeList.make_room.Goals.{After-loop-i, then-is_newest, else-is_newest}
 use Rattle.change_list.proofs.ChangeList.make_room.Goals as goal
 
-pub returns-then-self : goal.returns-then-self
-returns-then-self c =
+pub returns-then-self-clause-kept : goal.returns-then-self-clause-kept
+returns-then-self-clause-kept c =
     let list = c.args.self.now in
     let records = list.records.now in
-    record {
-      kept = sym (room_left (length records) (take list.used records) (omega (arith, length-take-le list.used records list.within)));
-      room = c.if-self.true;
-      length = refl;
-      loan = refl;
-    }
-
-pub loop-i-init : goal.loop-i-init
-loop-i-init c = (refl, refl, refl, omega arith, refl)
-
-pub is_newest-requires : goal.is_newest-requires
-is_newest-requires c = omega arith
-
-pub offset_bounds-self-len : goal.offset_bounds-self-len
-offset_bounds-self-len c = omega arith
-
-pub bounds-self-len : goal.bounds-self-len
-bounds-self-len c = omega arith
+    sym (room_left (length records) (take list.used records) (omega (arith, length-take-le list.used records list.within)))
 
 pub loop-i-preserved : goal.loop-i-preserved
 loop-i-preserved c =
@@ -68,9 +51,6 @@ invariant_of-self c =
     let len = c.loop-i.len in
     let none : Change = record { cell = 0; number = 0 } in
     record { within = simp length-set (omega arith); sound = sound_moved records list.used i len none list.within (omega arith) (omega arith) list.sound }
-
-pub overflow_add-len : goal.overflow_add-len
-overflow_add-len c = omega arith
 
 over : (c : After-loop-i) → take c.loop-i.len c.loop-i.self.records.now ≡ newest (take c.args.self.now.used c.args.self.now.records.now)
 over c =

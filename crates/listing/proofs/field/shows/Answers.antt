@@ -1,51 +1,46 @@
-use Rattle.std.proofs.Common.{◌≡◌, ℕ, suc, ◌+◌, ◌-◌, ◌/◌, length, sym, refl, ap, ◌∙◌, subst, arith}
-use Rattle.std.proofs.lemmas.Bool.{false≢true}
-use Rattle.listing.proofs.Written.{Leaves, length-field, first, other_last, next, other-column}
+use Rattle.std.proofs.Common.{◌≡◌, ℕ, ◌<◌, suc, ◌-◌, ◌/◌, ◌++◌, [], ◌∷◌, get_or, length, take, sym, ap, ◌∙◌, subst, arith}
+use Rattle.std.proofs.lemmas.Iterator.Adapters.{YieldsList-from_rev_slice}
+use Rattle.std.proofs.lemmas.Iterator.Consumers.{YieldsList-turn}
+use Rattle.std.proofs.lemmas.List.{length_push}
+use Rattle.listing.proofs.Written.{Leaves, length-field, column_at, first, other_last, next, other-column}
+use Rattle.listing.proofs.field.shows.Goals.{In-Some}
 use Rattle.listing.proofs.field.shows.Goals as goal
 
-pub returns-then-field-ne-COLUMNS : goal.returns-then-field-ne-COLUMNS
-returns-then-field-ne-COLUMNS c =
-    record {
-      written = λ e. absurd (false≢true e);
-      found = λ e. absurd (c.if-field-ne-COLUMNS.true (ap length e ∙ length-field c.args.number (omega arith)));
-    }
+pub returns-then-field-ne-COLUMNS-clause-found : goal.returns-then-field-ne-COLUMNS-clause-found
+returns-then-field-ne-COLUMNS-clause-found c = λ e. absurd (c.if-field-ne-COLUMNS.true (ap length e ∙ length-field c.args.number (omega arith)))
 
-pub returns-then-field-number : goal.returns-then-field-number
-returns-then-field-number c =
-    record {
-      written = λ e. absurd (false≢true e);
-      found = λ e. absurd (other_last c.args.field.now c.args.number 0 c.if-field-ne-COLUMNS.false (omega arith) c.if-field-number.true e);
-    }
+pub returns-then-field-number-clause-found : goal.returns-then-field-number-clause-found
+returns-then-field-number-clause-found c = λ e. absurd (other_last c.args.field.now c.args.number 0 c.if-field-ne-COLUMNS.false (omega arith) c.if-field-number.true e)
 
-pub loop-k-init : goal.loop-k-init
-loop-k-init c = first c.args.field.now c.args.number 0 c.if-field-ne-COLUMNS.false (omega arith) c.if-field-number.false
+pub loop-column-init : goal.loop-column-init
+loop-column-init c = first c.args.field.now c.args.number 0 c.if-field-ne-COLUMNS.false (omega arith) c.if-field-number.false
 
-pub returns-then-field-k : goal.returns-then-field-k
-returns-then-field-k c =
+-- The column that the loop has come to.
+here : (c : In-Some) → (length c.loop-column.yielded < 10) × (c.in-Some.column.now ≡ get_or c.args.field.now (9 - length c.loop-column.yielded) c.in-Some.column.now)
+here c =
     let bytes = c.args.field.now in
-    let n = c.args.number in
-    let k = c.loop-k.k in
-    let rest = c.loop-k.rest in
-    let here : 10 - k ≡ suc (9 - k) = omega (arith, c.loop-k-test.true) in
-    let so_far = subst (λ (m : ℕ). Leaves bytes n m rest) here c.loop-k.invariant in
-    record {
-      written = λ e. absurd (false≢true e);
-      found = λ e. absurd (other-column bytes n (9 - k) rest 0 (omega (arith, c.if-field-ne-COLUMNS.false)) so_far (λ same. c.if-field-k.true (same ∙ sym c.left_of.ensures)) e);
-    }
+    let column = c.in-Some.column in
+    let turn = YieldsList-turn (YieldsList-from_rev_slice (take 10 bytes) (cc)) c.loop-column.yielded _ c.loop-column.yielded_by _ _ column c.in-Some.is c.next.ensures.steps in
+    let at = column_at bytes (length c.loop-column.yielded) column.now c.if-field-ne-COLUMNS.false turn.0 in
+    (at.0, turn.1 ∙ at.1)
 
-pub loop-k-preserved : goal.loop-k-preserved
-loop-k-preserved c =
-    let bytes = c.args.field.now in
-    let n = c.args.number in
-    let k = c.loop-k.k in
-    let rest = c.loop-k.rest in
-    let here : 10 - k ≡ suc (9 - k) = omega (arith, c.loop-k-test.true) in
-    let then : 9 - k ≡ 10 - (k + 1) = omega (arith, c.loop-k-test.true) in
-    let so_far = subst (λ (m : ℕ). Leaves bytes n m rest) here c.loop-k.invariant in
-    subst (λ (m : ℕ). Leaves bytes n m (rest / 10)) then (next bytes n (9 - k) rest 0 (omega (arith, c.if-field-ne-COLUMNS.false)) so_far (c.if-field-k.false ∙ c.left_of.ensures))
+so-far : (c : In-Some) → Leaves c.args.field.now c.args.number (suc (9 - length c.loop-column.yielded)) c.loop-column.rest
+so-far c =
+    let more = (here c).0 in
+    subst (λ (m : ℕ). Leaves c.args.field.now c.args.number m c.loop-column.rest) (omega arith) c.loop-column.invariant
 
-pub returns : goal.returns
-returns c =
-    let end : 10 - c.loop-k.k ≡ 0 = omega (arith, c.loop-k-test.false) in
-    let so_far = subst (λ (m : ℕ). Leaves c.args.field.now c.args.number m c.loop-k.rest) end c.loop-k.invariant in
-    record { written = λ e. so_far.enough refl; found = λ e. refl }
+pub returns-then-column-left_of-clause-found : goal.returns-then-column-left_of-clause-found
+returns-then-column-left_of-clause-found c =
+    let h = (goal.at.returns-then-column-left_of-clause-found c).In-Some in
+    let k = length c.loop-column.yielded in
+    λ e. absurd (other-column c.args.field.now c.args.number (9 - k) c.loop-column.rest c.in-Some.column.now (omega (arith, c.if-field-ne-COLUMNS.false)) (so-far h) (λ same. c.if-column-left_of.true ((here h).1 ∙ same ∙ sym c.left_of.ensures)) e)
+
+pub loop-column-preserved : goal.loop-column-preserved
+loop-column-preserved c =
+    let h = (goal.at.loop-column-preserved c).In-Some in
+    let k = length c.loop-column.yielded in
+    let more = (here h).0 in
+    let column = c.in-Some.column.now in
+    let then : 9 - k ≡ 10 - length (c.loop-column.yielded ++ c.in-Some.column ∷ []) = omega (arith, length_push c.loop-column.yielded c.in-Some.column) in
+    let left = next c.args.field.now c.args.number (9 - k) c.loop-column.rest column (omega (arith, c.if-field-ne-COLUMNS.false)) (so-far h) (sym (here h).1 ∙ c.if-column-left_of.false ∙ c.left_of.ensures) in
+    subst (λ (m : ℕ). Leaves c.args.field.now c.args.number m (c.loop-column.rest / 10)) then left

@@ -4,5 +4,5 @@ use Rattle.write_back.proofs.WriteBack.into_store.Given as goal
 
 abbrev pub invariant-loop-change : goal.invariant-loop-change
 invariant-loop-change g l =
-    (replay (g.S.Store.cells l.below) (drop l.change-index l.changes) ≡ replay (g.S.Store.cells l.initial.below) l.changes)
+    (replay (g.S.Store.cells l.below) (drop l.change-index l.change-items) ≡ replay (g.S.Store.cells l.initial.below) l.change-items)
     × (g.S.Store.loan l.below ≡ g.S.Store.loan l.initial.below)

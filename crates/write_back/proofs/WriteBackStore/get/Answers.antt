@@ -1,15 +1,12 @@
-use Rattle.std.proofs.Common.{◌∙◌, arith}
-use Rattle.store.specs.Changes.{replay}
-use Rattle.store.proofs.Cells.{get_past}
+use Rattle.std.proofs.Common.{◌≡◌, ℕ, Option, ap, ◌∙◌, arith, rules}
+use Rattle.std.specs.Option.{option_or}
+use Rattle.store.specs.Cells.{cell_at}
 use Rattle.write_back.specs.Holding.{held_in}
-use Rattle.write_back.proofs.Layer.{get_below, get_held}
+use Rattle.write_back.proofs.Layer.{get_layer}
 use Rattle.write_back.proofs.WriteBackStore.get.Goals as goal
 
-pub returns-then-cell-count : goal.returns-then-cell-count
-returns-then-cell-count g c = get_past (replay (g.S.Store.cells c.args.self.now.below) (held_in c.args.self.now.held)) c.args.cell (omega arith)
-
-pub returns-in-Some : goal.returns-in-Some
-returns-in-Some g c = get_held (g.S.Store.cells c.args.self.now.below) (held_in c.args.self.now.held) c.args.cell c.in-Some.number (omega arith) c.in-Some.ensures
-
-pub returns-in-None : goal.returns-in-None
-returns-in-None g c = c.get.ensures ∙ get_below (g.S.Store.cells c.args.self.now.below) (held_in c.args.self.now.held) c.args.cell (omega arith) c.in-None.ensures
+pub returns : goal.returns
+returns g c =
+    let cells = g.S.Store.cells c.args.self.now.below in
+    let read : c.or_else.result ≡ option_or c.number_of-held.result (cell_at cells c.args.cell) = search rules in
+    read ∙ ap (λ (o : Option ℕ). option_or o (cell_at cells c.args.cell)) c.number_of-held.ensures ∙ get_layer cells (held_in c.args.self.now.held) c.args.cell (omega arith)

@@ -1,13 +1,10 @@
-use Rattle.std.proofs.Common.{ℕ, Some, Option, unwrap_or, ap, ◌∙◌, arith}
-use Rattle.store.proofs.Cells.{get_past}
-use Rattle.change_list.specs.Records.{list_cells}
+use Rattle.std.proofs.Common.{◌≡◌, take, unwrap_or, Some, ap, ◌∙◌, arith}
+use Rattle.store.specs.Changes.{newest_number}
 use Rattle.change_list.proofs.Kept.{get_inside}
 use Rattle.change_list.proofs.cells.ChangeListStore.get.Goals as goal
-
-pub returns-then-cell-count : goal.returns-then-cell-count
-returns-then-cell-count c = let list = c.args.self.now in get_past (list_cells list.records.now list.used) c.args.cell (omega arith)
 
 pub returns : goal.returns
 returns c =
     let list = c.args.self.now in
-    ap Some (c.unwrap_or.ensures ∙ ap (λ (n : Option ℕ). unwrap_or n 0) c.newest_number-number.ensures) ∙ get_inside list.records.now list.used c.args.cell (omega arith)
+    let read : c.unwrap_or.result ≡ unwrap_or (newest_number (take list.used list.records.now) c.args.cell) 0 = cc in
+    ap Some read ∙ get_inside list.records.now list.used c.args.cell (omega arith)

@@ -1,37 +1,27 @@
-use Rattle.std.proofs.Common.{[], ◌∷◌, length, take, sym, refl, ap, arith, length-set}
-use Rattle.std.proofs.lemmas.List.{set_past}
-use Rattle.std.proofs.lemmas.Bool.{le-ltb, lt-ltb}
+use Rattle.std.proofs.Common.{length, take, arith, length-set}
 use Rattle.store.specs.declared.change.Change.{Change}
-use Rattle.change_list.specs.Records.{list_cells, with_room}
+use Rattle.change_list.specs.Records.{with_room}
 use Rattle.change_list.proofs.Kept.{added, cells_added, length-cells, sound_added}
 use Rattle.change_list.proofs.cells.ChangeListStore.set.Goals as goal
-
-pub returns-then-cell-count : goal.returns-then-cell-count
-returns-then-cell-count c =
-    let list = c.args.self.now in
-    let cells = list_cells list.records.now list.used in
-    record {
-      answer = sym (le-ltb c.args.cell (length cells) (omega arith));
-      after = sym (set_past cells c.args.cell c.args.number (omega arith));
-      same = refl;
-      records = refl;
-    }
 
 pub make_room-requires : goal.make_room-requires
 make_room-requires c = let list = c.args.self.now in omega (arith, length-cells list.records.now list.used)
 
-pub returns : goal.returns
-returns c =
+pub returns-clause-after : goal.returns-clause-after
+returns-clause-after c =
     let list = c.args.self.now in
     let room = c.make_room.new.self in
     let made = c.make_room.ensures in
     let change : Change = record { cell = c.args.cell; number = c.args.number } in
-    record {
-      answer = sym (lt-ltb c.args.cell (length (list_cells list.records.now list.used)) (omega arith));
-      after = cells_added list.records.now room.records.now list.used room.used change made.room made.length made.kept;
-      same = ap (λ n. n ∷ []) made.loan;
-      records = added room.records.now room.used change (with_room (length list.records.now) (take list.used list.records.now)) made.room made.kept;
-    }
+    cells_added list.records.now room.records.now list.used room.used change made.room made.length made.kept
+
+pub returns-clause-records : goal.returns-clause-records
+returns-clause-records c =
+    let list = c.args.self.now in
+    let room = c.make_room.new.self in
+    let made = c.make_room.ensures in
+    let change : Change = record { cell = c.args.cell; number = c.args.number } in
+    added room.records.now room.used change (with_room (length list.records.now) (take list.used list.records.now)) made.room made.kept
 
 pub invariant_of-self : goal.invariant_of-self
 invariant_of-self c =
