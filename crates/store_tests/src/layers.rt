@@ -1,6 +1,5 @@
-use crate::recorder::{Log, Recorder};
+use crate::recorder::Recorder;
 use change_list::ChangeList;
-use std::process::Abort;
 use store::Store;
 use store::change::Change;
 use store::word_table::WordTable;
@@ -16,7 +15,11 @@ const BEYOND: u32 = 70;
 fn sets_below(rt: HostRuntime) {
     for (different, sets, again) in [(1, 1, 0), (32, 32, 0), (33, 34, 33), (34, 35, 34)] {
         let mut words = [0; CELLS];
-        let log = set_different(&rt, WordTable::new(&mut words), different);
+        let mut layer = WriteBack::new(Recorder::new(WordTable::new(&mut words)));
+        set_different(&mut layer, different);
+        assert!(rt; !layer.set(BEYOND, 1));
+        assert!(rt; layer.get(BEYOND).is_none());
+        let Recorder { inner: _, log } = layer.into_store();
         assert_eq!(rt; log.sets.len(), sets);
         assert_eq!(rt; log.missed, 0);
         for (i, set) in log.sets.iter().enumerate() {
@@ -27,60 +30,55 @@ fn sets_below(rt: HostRuntime) {
 }
 
 // Sets so many different cells to 1, and then cell 0 to 2: up to 32 it is still held and keeps its place, else it is
-// held anew. A set beyond the count is refused. Gives the log of what was set on the store.
-fn set_different<S: Store + Drop>(rt: &impl Abort, below: S, different: u32) -> Log {
-    let mut layer = WriteBack::new(Recorder::new(below));
+// held anew.
+fn set_different<S: Store>(layer: &mut S, different: u32) {
     for cell in 0..different {
         layer.set(cell, 1);
     }
     layer.set(0, 2);
-    assert!(rt; !layer.set(BEYOND, 1));
-    assert!(rt; layer.get(BEYOND).is_none());
-    let Recorder { inner: _, log } = layer.into_store();
-    log
 }
 
 #[test]
 fn over_word_table(rt: HostRuntime) {
     let mut words = [0; CELLS];
-    two_layers(&rt, WordTable::new(&mut words));
+    assert!(rt; two_layers(WordTable::new(&mut words)));
 }
 
 #[test]
 fn over_change_list(rt: HostRuntime) {
     let mut records = [Change { cell: 0, number: 9 }; CELLS + 1];
-    two_layers(&rt, ChangeList::new(&mut records));
+    assert!(rt; two_layers(ChangeList::new(&mut records)));
 }
 
-// Drives two layers over a store. They, and the store once they are taken apart, hold what plain numbers do. More than
-// 32 different cells are set, so that cells are set below at both levels.
-fn two_layers<S: Store + Drop>(rt: &impl Abort, below: S) {
+// Drives two layers over a store, and says whether they, and the store once they are taken apart, hold what plain
+// numbers do. More than 32 different cells are set, so that cells are set below at both levels.
+fn two_layers<S: Store + Drop>(below: S) -> bool {
     let mut numbers = [0; CELLS];
     let mut top = WriteBack::new(WriteBack::new(below));
-    drive(rt, &mut top, &mut numbers);
-    agrees(rt, &top, &numbers);
+    let driven = drive(&mut top, &mut numbers) && agrees(&top, &numbers);
     let middle = top.into_store();
-    agrees(rt, &middle, &numbers);
+    let taken_apart = agrees(&middle, &numbers);
     let store = middle.into_store();
-    agrees(rt, &store, &numbers);
+    driven && taken_apart && agrees(&store, &numbers)
 }
 
-// Sets cells all over the store and just beyond it, each of which has to be answered rightly.
-fn drive<S: Store>(rt: &impl Abort, store: &mut S, numbers: &mut [u32; CELLS]) {
+// Sets cells all over the store and just beyond it, and says whether each was answered rightly.
+fn drive<S: Store>(store: &mut S, numbers: &mut [u32; CELLS]) -> bool {
+    let mut same = true;
     for n in 0..400u32 {
         let cell = n * 29 % (BEYOND + 1);
-        assert_eq!(rt; store.set(cell, n), cell < BEYOND);
+        same &= store.set(cell, n) == (cell < BEYOND);
         if let Some(number) = numbers.get_mut(cell as usize) {
             *number = n;
         }
     }
+    same
 }
 
-// The store has these numbers, and no more.
-fn agrees<S: Store>(rt: &impl Abort, store: &S, numbers: &[u32; CELLS]) {
-    assert_eq!(rt; store.count(), CELLS);
-    for (cell, number) in (0..BEYOND).zip(numbers) {
-        assert_eq!(rt; store.get(cell), Some(*number));
-    }
-    assert!(rt; store.get(BEYOND).is_none());
+// Whether the store has these numbers, and no more.
+fn agrees<S: Store>(store: &S, numbers: &[u32; CELLS]) -> bool {
+    let same = (0..BEYOND)
+        .zip(numbers)
+        .all(|(cell, number)| store.get(cell) == Some(*number));
+    same && store.count() == CELLS && store.get(BEYOND).is_none()
 }
