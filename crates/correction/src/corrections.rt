@@ -14,11 +14,7 @@ impl Correction {
     pub fn new() -> Correction
         ensures { correction_of result ≡ correction true [] [] }
     {
-        Correction {
-            is_open: true,
-            reads: LogRow::empty(),
-            writes: LogRow::empty(),
-        }
+        Correction::default()
     }
 
     // A log to be changed. The rows of a correction always pass the check.
@@ -112,6 +108,19 @@ impl Correction {
             Ok(())
         } else {
             Err(Refusal::NotOpen)
+        }
+    }
+}
+
+// An open correction that has read and written nothing.
+impl Default for Correction {
+    ghost is_default = { λ c. correction_of c ≡ correction true [] [] };
+
+    fn default() -> Correction {
+        Correction {
+            is_open: true,
+            reads: LogRow::empty(),
+            writes: LogRow::empty(),
         }
     }
 }

@@ -48,16 +48,7 @@ impl Job {
     pub fn blank() -> Job
         ensures { job_of result ≡ new_job (step.End ∷ []) }
     {
-        Job {
-            program: [Step::End; MOST_STEPS],
-            steps: 1,
-            stage: Stage::Start,
-            registers: [0; REGISTERS],
-            reads: LogRow::empty(),
-            writes: LogRow::empty(),
-            marked: false,
-            starts: 0,
-        }
+        Job::default()
     }
 
     // Applies the first rule of the job's stage that fits, as far as it changes the job.
@@ -128,5 +119,23 @@ impl Job {
         ensures { result ≡ (job_of self.now).starts }
     {
         self.starts
+    }
+}
+
+// A job that only ends.
+impl Default for Job {
+    ghost is_default = { λ b. job_of b ≡ new_job (step.End ∷ []) };
+
+    fn default() -> Job {
+        Job {
+            program: [Step::End; MOST_STEPS],
+            steps: 1,
+            stage: Stage::Start,
+            registers: [0; REGISTERS],
+            reads: LogRow::empty(),
+            writes: LogRow::empty(),
+            marked: false,
+            starts: 0,
+        }
     }
 }
