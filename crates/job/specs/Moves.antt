@@ -4,7 +4,10 @@ use Rattle.model.specs.Logs.{find, remove, lowest, any, value_in, put_at}
 use Rattle.model.specs.Rules.{JobState, State, counted, with_logs, with_job}
 use Rattle.model.specs.declared.Entry.{Entry}
 use Rattle.model.specs.Calls.{turn_of}
-use Rattle.model.specs.declared.Rule.TheVariants.{V3}
+use Rattle.model.specs.declared.Rule.{Rule}
+use Rattle.model.specs.declared.Rule.TheVariants.{R1, R2, R3, V3}
+use Rattle.cell_log.specs.declared.both.Found.{Found}
+use Rattle.cell_log.specs.declared.both.Found.TheVariants.{InWrites, InReads, InStore}
 use Rattle.model.specs.declared.Stage.TheVariants as stage
 use Rattle.job.specs.Shape.{is_done}
 use Rattle.job.specs.declared.moves.Move.{Move}
@@ -39,3 +42,9 @@ Moves cells right b b' move = (s : State) (j : ℕ) → s.cells ≡ cells → s.
 abbrev pub WriteOf : JobState → JobState → Option Entry → Type 0
 WriteOf b b' None = (lowest any b.writes ≡ None) × (b' ≡ b)
 WriteOf b b' (Some e) = (lowest any b.writes ≡ Some e.cell) × (value_in (find b.writes e.cell) ≡ e.number) × (b' ≡ with_logs b b.reads (remove b.writes e.cell))
+
+-- The rule under which a number is read that was found there.
+abbrev pub read_rule : Found → Rule
+read_rule InWrites = R1
+read_rule InReads = R2
+read_rule InStore = R3

@@ -10,7 +10,7 @@ ghost use Rattle.job.specs.Moves.{Moves, WriteOf};
 use crate::admission::{MOST_STEPS, REGISTERS, admission_fault};
 use crate::job::Job;
 use crate::moves::Move;
-use cell_log::LogRow;
+use cell_log::{Logs, Lookups};
 use model::{Entry, Fault, Stage, Step};
 use store::Store;
 
@@ -37,8 +37,7 @@ impl Job {
             steps: steps.len(),
             stage: Stage::Start,
             registers: [0; REGISTERS],
-            reads: LogRow::empty(),
-            writes: LogRow::empty(),
+            logs: Logs::empty(),
             marked: false,
             starts: 0,
         })
@@ -100,11 +99,9 @@ impl Job {
     pub fn take_write(&mut self) -> Option<Entry>
         ensures { WriteOf (job_of self.old) (job_of self.new) result }
     {
-        let cell = self.writes.lowest()?;
-        let writes = self.write_log();
-        let number = writes.number(cell).unwrap_or(0);
-        self.writes = writes.remove(cell).into_row();
-        Some(Entry { cell, number })
+        let entry = *self.logs.writes.entries().first()?;
+        self.logs.forget_write(entry.cell);
+        Some(entry)
     }
 
     // The job has committed.
@@ -132,8 +129,7 @@ impl Default for Job {
             steps: 1,
             stage: Stage::Start,
             registers: [0; REGISTERS],
-            reads: LogRow::empty(),
-            writes: LogRow::empty(),
+            logs: Logs::empty(),
             marked: false,
             starts: 0,
         }
