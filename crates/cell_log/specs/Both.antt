@@ -1,5 +1,5 @@
 -- What a cell's number is, by both logs and the store. Assumes nothing.
-use Rattle.std.specs.Prelude.{◌≡◌, ℕ, false, List, length, Some, None, nat_lt}
+use Rattle.std.specs.Prelude.{◌≡◌, ℕ, true, false, List, length, Some, None, nat_lt}
 use Rattle.model.specs.Logs.{find, put, cell_of}
 use Rattle.cell_log.specs.Rows.{entries_of}
 use Rattle.cell_log.specs.declared.both.Logs.{Logs}
@@ -15,7 +15,7 @@ abbrev pub FoundIn : List ℕ → ℕ → Logs → Logs → ℕ → Found → Ty
 FoundIn cells cell old new number InWrites = (find (entries_of old.writes) cell ≡ Some number) × (new ≡ old)
 FoundIn cells cell old new number InReads = (find (entries_of old.writes) cell ≡ None) × (find (entries_of old.reads) cell ≡ Some number) × (new ≡ old)
 FoundIn cells cell old new number InStore =
-    Unlogged cell old × (number ≡ cell_of cells cell) × (entries_of new.reads ≡ put (entries_of old.reads) cell number) × (new.writes ≡ old.writes)
+    Unlogged cell old × (nat_lt (length (entries_of old.reads)) 24 ≡ true) × (number ≡ cell_of cells cell) × (entries_of new.reads ≡ put (entries_of old.reads) cell number) × (new.writes ≡ old.writes)
 
 -- The read log has no room for the cell, and neither log has it.
 abbrev pub FullFor : ℕ → Logs → Type 0

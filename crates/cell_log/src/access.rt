@@ -1,13 +1,14 @@
-ghost use Rattle.std.specs.Prelude.{◌≡◌, ◌<◌, ◌||◌, [], length, is_ok, is_some, nat_lt, IsOk, IfOk, OnOk, OnErr};
+ghost use Rattle.std.specs.Prelude.{◌≡◌, ◌<◌, ◌||◌, [], length, is_ok, is_some, nat_lt, IsOk, IfOk, IfErr, OnOk};
 ghost use Rattle.model.specs.Logs.{find, put, remove};
 ghost use Rattle.cell_log.specs.Both.{FoundIn, FullFor};
 ghost use Rattle.cell_log.specs.Rows.{entries_of};
 
-use crate::both::{Found, LogFull, Logs, Reading};
+use crate::both::{Found, Logs, Reading};
 use crate::log::Log;
 use crate::lookups::Lookups;
 use crate::row::LogRow;
 use crate::scans::number_at;
+use model::Refusal;
 use store::Store;
 
 impl Logs {
@@ -35,9 +36,9 @@ impl Logs {
     }
 
     // Reads a cell: what was written first, then what was read before, and else the store, which is logged.
-    pub fn read<S: Store>(&mut self, store: &S, cell: u32) -> Result<Reading, LogFull>
+    pub fn read<S: Store>(&mut self, store: &S, cell: u32) -> Result<Reading, Refusal>
         ensures ok { IfOk result (λ r. FoundIn (S.Store.cells store.now) cell self.old self.new r.number r.found) }
-        ensures err { OnErr result (FullFor cell self.old × (self.new ≡ self.old)) }
+        ensures err { IfErr result (λ e. (e ≡ Refusal.LogFull) × FullFor cell self.old × (self.new ≡ self.old)) }
         ensures room { length (entries_of self.old.reads) < 24 → IsOk result }
     {
         if let Some(number) = self.writes.number(cell) {
@@ -49,19 +50,19 @@ impl Logs {
             return Ok(Reading { number, found });
         }
         let number = number_at(store, cell);
-        let reads = self.read_log().put(cell, number).ok_or(LogFull)?;
+        let reads = self.read_log().put(cell, number).ok_or(Refusal::LogFull)?;
         self.reads = LogRow::from(reads);
         let found = Found::InStore;
         Ok(Reading { number, found })
     }
 
     // Writes a number for a cell, in place of an older one.
-    pub fn write(&mut self, cell: u32, number: u32) -> Result<(), LogFull>
+    pub fn write(&mut self, cell: u32, number: u32) -> Result<(), Refusal>
         ensures answer { is_ok result ≡ (nat_lt (length (entries_of self.old.writes)) 24 || is_some (find (entries_of self.old.writes) cell)) }
         ensures ok { OnOk result ((entries_of self.new.writes ≡ put (entries_of self.old.writes) cell number) × (self.new.reads ≡ self.old.reads)) }
-        ensures err { OnErr result (self.new ≡ self.old) }
+        ensures err { IfErr result (λ e. (e ≡ Refusal.LogFull) × (self.new ≡ self.old)) }
     {
-        let writes = self.write_log().put(cell, number).ok_or(LogFull)?;
+        let writes = self.write_log().put(cell, number).ok_or(Refusal::LogFull)?;
         self.writes = LogRow::from(writes);
         Ok(())
     }

@@ -12,10 +12,6 @@ pub struct Logs {
     ghost writable: { sound writes ≡ true },
 }
 
-// A log that has no room for one cell more.
-#[derive(Clone, Copy, Debug, PartialEq)]
-pub struct LogFull;
-
 // Where the number of a cell was found.
 #[derive(Clone, Copy, Debug, PartialEq)]
 pub enum Found {

@@ -9,7 +9,6 @@ use Rattle.model.specs.Logs.{Log as Entries}
 use Rattle.cell_log.specs.Rows.{entries_of}
 use Rattle.cell_log.specs.Both.{FoundIn}
 use Rattle.cell_log.specs.declared.both.Logs.{Logs}
-use Rattle.cell_log.specs.declared.both.LogFull.{LogFull}
 use Rattle.cell_log.specs.declared.both.Reading.{Reading}
 use Rattle.cell_log.specs.declared.both.Found.{Found}
 use Rattle.cell_log.specs.declared.both.Found.TheVariants.{InWrites, InReads, InStore}
@@ -18,6 +17,7 @@ use Rattle.model.specs.Steps.{following}
 use Rattle.model.specs.Rules.{JobState, place_of, step_or, step_of, in_stage, with_registers}
 use Rattle.model.specs.Intake.{fault_if, fault, bad_register, step_fault, steps_fault, bad_count, stops, admission_fault}
 use Rattle.model.specs.Law.{WellFormed}
+use Rattle.model.specs.declared.Refusal.{Refusal}
 use Rattle.model.specs.declared.Refusal.TheVariants.{TooManyJobs, StepCount, NoSuchRegister}
 use Rattle.model.specs.declared.Step.{Step}
 use Rattle.model.specs.declared.Step.TheVariants.{Read, Write, Load, Add, Subtract, JumpIfLess, Wait, End}
@@ -117,17 +117,17 @@ placed_on b l registers n reads writes e h r w =
     subst (λ z. placed z.stage z.program reads writes ≡ true) (sym e) (placed_at (suc n) b.program reads writes h r w)
 
 -- What a reading and a writing leave has at most one entry more.
-pub after_reading : (cells : List ℕ) (c n : ℕ) (old new : Logs) (r : Result Reading LogFull) (x : Reading) → r ≡ Ok x → IfOk r (λ y. FoundIn cells c old new y.number y.found) → length (entries_of old.reads) ≤ n → length (entries_of old.writes) ≤ n → (length (entries_of new.reads) ≤ suc n) × (length (entries_of new.writes) ≤ suc n)
+pub after_reading : (cells : List ℕ) (c n : ℕ) (old new : Logs) (r : Result Reading Refusal) (x : Reading) → r ≡ Ok x → IfOk r (λ y. FoundIn cells c old new y.number y.found) → length (entries_of old.reads) ≤ n → length (entries_of old.writes) ≤ n → (length (entries_of new.reads) ≤ suc n) × (length (entries_of new.writes) ≤ suc n)
 after_reading cells c n old new r x e h = after x.number x.found (subst (λ z. IfOk z (λ y. FoundIn cells c old new y.number y.found)) e h)
   where
     after : (v : ℕ) (found : Found) → FoundIn cells c old new v found → length (entries_of old.reads) ≤ n → length (entries_of old.writes) ≤ n → (length (entries_of new.reads) ≤ suc n) × (length (entries_of new.writes) ≤ suc n)
     after v InWrites h r w = rw (h.1) (omega arith, omega arith)
     after v InReads h r w = rw (h.2) (omega arith, omega arith)
     after v InStore h r w =
-        let writes = ap (λ z. length (entries_of z)) h.3 in
-        (omega (arith, ap length h.2, length-put_le c v (entries_of old.reads)), omega arith)
+        let writes = ap (λ z. length (entries_of z)) h.4 in
+        (omega (arith, ap length h.3, length-put_le c v (entries_of old.reads)), omega arith)
 
-pub after_writing : (c v n : ℕ) (old new : Logs) (r : Result (Unit {0}) LogFull) (x : Unit {0}) → r ≡ Ok x → OnOk r ((entries_of new.writes ≡ put (entries_of old.writes) c v) × (new.reads ≡ old.reads)) → length (entries_of old.reads) ≤ n → length (entries_of old.writes) ≤ n → (length (entries_of new.reads) ≤ suc n) × (length (entries_of new.writes) ≤ suc n)
+pub after_writing : (c v n : ℕ) (old new : Logs) (r : Result (Unit {0}) Refusal) (x : Unit {0}) → r ≡ Ok x → OnOk r ((entries_of new.writes ≡ put (entries_of old.writes) c v) × (new.reads ≡ old.reads)) → length (entries_of old.reads) ≤ n → length (entries_of old.writes) ≤ n → (length (entries_of new.reads) ≤ suc n) × (length (entries_of new.writes) ≤ suc n)
 after_writing c v n old new r x e h =
     let p = subst (λ z. OnOk z ((entries_of new.writes ≡ put (entries_of old.writes) c v) × (new.reads ≡ old.reads))) e h in
     λ reads writes.
