@@ -26,6 +26,7 @@ use Rattle.model.specs.declared.Stage.TheVariants.{Start, At, Rollback, Validate
 use Rattle.model.proofs.Basics.{zero_one}
 use Rattle.model.proofs.Admission.{neither, not_bad, no_fault, suffices}
 use Rattle.model.proofs.Follow.{step-at, goes_on}
+use Rattle.job.specs.Moves.{Makes}
 use Rattle.job.specs.Shape.{runnable, placed}
 
 -- The registers that a step names are there.
@@ -145,3 +146,14 @@ placed_less Rollback program reads writes fewer h e = refl
 placed_less Validate program reads writes fewer h e = refl
 placed_less Commit program reads writes fewer h e = refl
 placed_less Done program reads writes fewer h e = refl
+
+-- A step that makes a number is followed by the next one, and its register is there.
+pub makes_on : (b : JobState) (n r number : ℕ) (st : Step) → AtPlace b n st → Makes st b.registers r number → (suc n < length b.program) × (r < 8)
+makes_on b n r number (Read q c) here m = absurd m
+makes_on b n r number (Write c q) here m = absurd m
+makes_on b n r number (Load q v) here m = ((here.goes refl).1, rw (m.0) here.registers)
+makes_on b n r number (Add q p) here m = ((here.goes refl).1, rw (m.0) here.registers.0)
+makes_on b n r number (Subtract q p) here m = ((here.goes refl).1, rw (m.0) here.registers.0)
+makes_on b n r number (JumpIfLess q p t) here m = absurd m
+makes_on b n r number Wait here m = absurd m
+makes_on b n r number End here m = absurd m

@@ -59,10 +59,12 @@ impl Job {
             (Stage::At(n), Step::Read { register, cell }, _) => self.read(store, n, register, cell),
             (Stage::At(n), Step::Write { cell, register }, _) => self.write(n, cell, register),
             (Stage::At(n), Step::Load { register, number }, _) => self.put(n, register, number),
-            (Stage::At(n), Step::Add { register, other }, _) => self.add(n, register, other),
-            (Stage::At(n), Step::Subtract { register, other }, _) => self.subtract(
-                n, register, other,
-            ),
+            (Stage::At(n), Step::Add { register, other }, _) => {
+                self.put(n, register, self.at(register).wrapping_add(self.at(other)))
+            }
+            (Stage::At(n), Step::Subtract { register, other }, _) => {
+                self.put(n, register, self.at(register).wrapping_sub(self.at(other)))
+            }
             (
                 Stage::At(n),
                 Step::JumpIfLess {

@@ -1,10 +1,11 @@
 ghost use Rattle.std.specs.Prelude.{◌≡◌, ℕ, suc, ◌<◌, List, length, Some, None, slice_set};
 ghost use Rattle.std.specs.declared.option.Option as option;
+ghost use Rattle.model.specs.Steps.{register};
 ghost use Rattle.model.specs.Rules.{step_of, in_stage, with_registers};
 ghost use Rattle.model.specs.declared.Stage.TheVariants.{Start, At, Validate, Rollback};
 ghost use Rattle.model.specs.declared.Step.TheVariants as step;
 ghost use Rattle.job.specs.Jobs.{job_of};
-ghost use Rattle.job.specs.Moves.{Moves, read_rule};
+ghost use Rattle.job.specs.Moves.{Moves, Makes, read_rule};
 
 use crate::admission::REGISTERS;
 use crate::job::Job;
@@ -40,6 +41,8 @@ fn read_rule(found: Found) -> Rule
     }
 }
 
+// What `turn` has matched, the stage and the step, each method is told in its own contract: a job is matched whole and
+// in one place, and a type that held a job at its step would only match it again.
 impl Job {
     // The step at which the job stands.
     pub(crate) fn step(&self) -> Step
@@ -78,6 +81,14 @@ impl Job {
         applies(Rule::Rb)
     }
 
+    // The number in a register.
+    pub(crate) fn at(&self, r: u32) -> u32
+        requires { r < 8 }
+        ensures { result ≡ register self.now.registers r }
+    {
+        self.registers[r as usize]
+    }
+
     // Puts a number into a register, and goes on to the next step.
     fn load(&mut self, n: u32, register: u32, number: u32)
         requires stage { self.old.stage ≡ At n }
@@ -108,7 +119,7 @@ impl Job {
     {
         let known = self.logs.writes.number(cell).is_some();
         let mut logs = self.logs;
-        logs.write(cell, self.registers[register as usize]).unwrap();
+        logs.write(cell, self.at(register)).unwrap();
         self.logs = logs;
         self.stage = Stage::At(n + 1);
         if known {
@@ -118,34 +129,13 @@ impl Job {
         }
     }
 
+    // Puts what the step makes of the registers into its register.
     pub(crate) fn put(&mut self, n: u32, register: u32, number: u32) -> Move
         requires stage { self.old.stage ≡ At n }
-        requires step { step_of (job_of self.old) ≡ step.Load register number }
+        requires step { Makes (step_of (job_of self.old)) self.old.registers register number }
         ensures { (C : List ℕ) (right : option.Option ℕ) → Moves C right (job_of self.old) (job_of self.new) result }
     {
         self.load(n, register, number);
-        applies(Rule::P)
-    }
-
-    pub(crate) fn add(&mut self, n: u32, register: u32, other: u32) -> Move
-        requires stage { self.old.stage ≡ At n }
-        requires step { step_of (job_of self.old) ≡ step.Add register other }
-        ensures { (C : List ℕ) (right : option.Option ℕ) → Moves C right (job_of self.old) (job_of self.new) result }
-    {
-        let sum = self.registers[register as usize].wrapping_add(self.registers[other as usize]);
-        self.load(n, register, sum);
-        applies(Rule::P)
-    }
-
-    pub(crate) fn subtract(&mut self, n: u32, register: u32, other: u32) -> Move
-        requires stage { self.old.stage ≡ At n }
-        requires step { step_of (job_of self.old) ≡ step.Subtract register other }
-        ensures { (C : List ℕ) (right : option.Option ℕ) → Moves C right (job_of self.old) (job_of self.new) result }
-    {
-        let difference = self.registers[register as usize].wrapping_sub(
-            self.registers[other as usize],
-        );
-        self.load(n, register, difference);
         applies(Rule::P)
     }
 
@@ -154,7 +144,7 @@ impl Job {
         requires step { step_of (job_of self.old) ≡ step.JumpIfLess register other target }
         ensures { (C : List ℕ) (right : option.Option ℕ) → Moves C right (job_of self.old) (job_of self.new) result }
     {
-        if self.registers[register as usize] < self.registers[other as usize] {
+        if self.at(register) < self.at(other) {
             self.stage = Stage::At(target.saturating_sub(1));
         } else {
             self.stage = Stage::At(n + 1);
