@@ -7,7 +7,8 @@ use model::Entry;
 // How many entries a log has room for: a job has at most 24 steps, and a step logs one cell at most.
 pub const ROOM: usize = 24;
 
-// A log as it lies in a job or a correction. Nothing is promised of it: `Log::from_row` looks.
+// A log as it lies in a job or a correction. Nothing is promised of it: `Log::try_from` looks.
+// Array and length stand side by side, since a row is a plain record in fixed memory, copied with what it lies in.
 #[derive(Clone, Copy)]
 pub struct LogRow {
     pub entries: [Entry; ROOM],

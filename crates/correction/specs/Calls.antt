@@ -29,3 +29,9 @@ abbrev pub Checked : List ℕ → Option ℕ → CorrectionState → Result (Uni
 Checked cells right f (Ok accepted) =
     (f.is_open ≡ true) × (right ≡ None) × ((s : State) (k : ℕ) → s.cells ≡ cells → s.right ≡ right → file_by s k (if_open (Some f)) ≡ filed s k f)
 Checked cells right f (Err refusal) = (s : State) (k : ℕ) → s.cells ≡ cells → s.right ≡ right → file_by s k (if_open (Some f)) ≡ refuse s refusal
+
+-- A correction so is refused the cell: neither reading nor writing it is allowed.
+abbrev pub Barred : List ℕ → CorrectionState → ℕ → Refusal → Type 0
+Barred cells f cell refusal =
+    (s : State) (k : ℕ) → s.cells ≡ cells →
+    (read_by s k cell (if_open (Some f)) ≡ refuse s refusal) × ((number : ℕ) → write_by s k cell number (if_open (Some f)) ≡ refuse s refusal)

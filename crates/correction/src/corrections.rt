@@ -1,11 +1,11 @@
-ghost use Rattle.std.specs.Prelude.{◌≡◌, ℕ, true, false, List, [], length};
+ghost use Rattle.std.specs.Prelude.{◌≡◌, ℕ, ◌<◌, true, false, List, [], length, IfErr, OnOk};
 ghost use Rattle.model.specs.Calls.{correction};
 ghost use Rattle.model.specs.Logs.{set_all};
 ghost use Rattle.correction.specs.Corrections.{correction_of};
-ghost use Rattle.correction.specs.Calls.{Comes, reading, writing, withdrawing, Checked};
+ghost use Rattle.correction.specs.Calls.{Comes, reading, writing, withdrawing, Checked, Barred};
 
 use crate::correction::Correction;
-use cell_log::{Log, LogRow, number_at};
+use cell_log::{Logs, Lookups};
 use model::Refusal;
 use store::Store;
 
@@ -14,78 +14,60 @@ impl Correction {
     pub fn new() -> Correction
         ensures { correction_of result ≡ correction true [] [] }
     {
-        Correction {
-            is_open: true,
-            reads: LogRow::empty(),
-            writes: LogRow::empty(),
+        Correction::default()
+    }
+
+    // Refuses a closed correction.
+    fn check_open(&self) -> Result<(), Refusal>
+        ensures ok { OnOk result ((correction_of self.now).is_open ≡ true) }
+        ensures err { IfErr result (λ e. ((correction_of self.now).is_open ≡ false) × (e ≡ Refusal.NotOpen)) }
+    {
+        if self.is_open {
+            Ok(())
+        } else {
+            Err(Refusal::NotOpen)
         }
     }
 
-    // A log to be changed. The rows of a correction always pass the check.
-    fn read_log(&self) -> Log
-        ensures { result.row ≡ self.now.reads }
+    // Refuses a closed correction every cell, and an open one what is no cell of the store.
+    fn check_access<S: Store>(&self, store: &S, cell: u32) -> Result<(), Refusal>
+        ensures ok { OnOk result (((correction_of self.now).is_open ≡ true) × (cell < length (S.Store.cells store.now))) }
+        ensures err { IfErr result (Barred (S.Store.cells store.now) (correction_of self.now) cell) }
     {
-        Log::from_row(self.reads).unwrap()
-    }
-
-    fn write_log(&self) -> Log
-        ensures { result.row ≡ self.now.writes }
-    {
-        Log::from_row(self.writes).unwrap()
+        self.check_open()?;
+        if (cell as usize) < store.count() {
+            Ok(())
+        } else {
+            Err(Refusal::NoSuchCell)
+        }
     }
 
     // Reads a cell as r1 to r3 do, in the correction's own logs.
     pub fn read<S: Store>(&mut self, store: &S, cell: u32) -> Result<u32, Refusal>
         ensures { Comes (reading cell) (S.Store.cells store.now) (correction_of self.old) (correction_of self.new) result }
     {
-        if !self.is_open {
-            return Err(Refusal::NotOpen);
-        }
-        if cell as usize >= store.count() {
-            return Err(Refusal::NoSuchCell);
-        }
-        if let Some(number) = self.writes.number(cell) {
-            return Ok(number);
-        }
-        if let Some(number) = self.reads.number(cell) {
-            return Ok(number);
-        }
-        let number = number_at(store, cell);
-        let Some(reads) = self.read_log().put(cell, number) else {
-            return Err(Refusal::LogFull);
-        };
-        self.reads = reads.into_row();
-        Ok(number)
+        self.check_access(store, cell)?;
+        let reading = self.logs.read(store, cell)?;
+        Ok(reading.number)
     }
 
     // Writes a number for a cell as w1 and w2 do.
     pub fn write<S: Store>(&mut self, store: &S, cell: u32, number: u32) -> Result<(), Refusal>
         ensures { Comes (writing cell number) (S.Store.cells store.now) (correction_of self.old) (correction_of self.new) result }
     {
-        if !self.is_open {
-            return Err(Refusal::NotOpen);
-        }
-        if cell as usize >= store.count() {
-            return Err(Refusal::NoSuchCell);
-        }
-        let Some(writes) = self.write_log().put(cell, number) else {
-            return Err(Refusal::LogFull);
-        };
-        self.writes = writes.into_row();
-        Ok(())
+        self.check_access(store, cell)?;
+        self.logs.write(cell, number)
     }
 
     // Whether it may be filed: it is open, the commit right is free, and every number that it read still is its cell's.
     pub fn check<S: Store>(&self, store: &S, right: Option<u32>) -> Result<(), Refusal>
         ensures { Checked (S.Store.cells store.now) right (correction_of self.now) result }
     {
-        if !self.is_open {
-            return Err(Refusal::NotOpen);
-        }
+        self.check_open()?;
         if right.is_some() {
             return Err(Refusal::RightHeld);
         }
-        match self.reads.lowest_changed(store) {
+        match self.logs.reads.lowest_changed(store) {
             Some(cell) => Err(Refusal::Changed { cell }),
             None => Ok(()),
         }
@@ -98,28 +80,32 @@ impl Correction {
         ensures after { S.Store.cells store.new ≡ set_all (correction_of self.old).writes (S.Store.cells store.old) }
         ensures same { S.Store.loan store.new ≡ S.Store.loan store.old }
     {
-        self.writes.set_all(store);
-        self.is_open = false;
-        self.writes.len() as u32
+        self.logs.writes.set_all(store);
+        *self = Correction {
+            is_open: false,
+            ..*self
+        };
+        self.logs.writes.len() as u32
     }
 
     // Closes it, if it is open.
     pub fn withdraw(&mut self) -> Result<(), Refusal>
         ensures { (C : List ℕ) → Comes withdrawing C (correction_of self.old) (correction_of self.new) result }
     {
-        if self.is_open {
-            self.is_open = false;
-            Ok(())
-        } else {
-            Err(Refusal::NotOpen)
-        }
+        self.check_open()?;
+        self.is_open = false;
+        Ok(())
     }
 }
 
+// An open correction that has read and written nothing.
 impl Default for Correction {
     ghost is_default = { λ c. correction_of c ≡ correction true [] [] };
 
     fn default() -> Correction {
-        Correction::new()
+        Correction {
+            is_open: true,
+            logs: Logs::empty(),
+        }
     }
 }

@@ -1,5 +1,5 @@
 -- What a job's type says of the step at which it stands.
-use Rattle.std.proofs.Common.{◌≡◌, ℕ, suc, ◌+◌, ◌^◌, ◌<◌, ◌≤◌, true, false, not, ◌&&◌, ltb, leb, List, length, get_or, take, is_some, IfSome, Some, None, Option, sym, refl, ap, ◌∙◌, subst, arith, MatchOption}
+use Rattle.std.proofs.Common.{◌≡◌, ℕ, suc, ◌+◌, ◌^◌, ◌<◌, ◌≤◌, true, false, not, ◌&&◌, ltb, leb, List, length, get_or, take, is_some, IfOk, OnOk, Ok, Result, Some, None, Option, sym, refl, ap, ◌∙◌, subst, arith}
 use Rattle.std.specs.List.{slice_get}
 use Rattle.std.proofs.lemmas.List.{get_or-take, length-take}
 use Rattle.std.proofs.lemmas.Option.{slice_get-get_or}
@@ -7,13 +7,17 @@ use Rattle.std.proofs.lemmas.Bool.{and_parts, and_from, ltb-true, ltb-false, leb
 use Rattle.model.specs.Logs.{put}
 use Rattle.model.specs.Logs.{Log as Entries}
 use Rattle.cell_log.specs.Rows.{entries_of}
-use Rattle.cell_log.specs.declared.log.Log.{Log}
-use Rattle.cell_log.specs.declared.row.LogRow.{LogRow}
+use Rattle.cell_log.specs.Both.{FoundIn}
+use Rattle.cell_log.specs.declared.both.Logs.{Logs}
+use Rattle.cell_log.specs.declared.both.Reading.{Reading}
+use Rattle.cell_log.specs.declared.both.Found.{Found}
+use Rattle.cell_log.specs.declared.both.Found.TheVariants.{InWrites, InReads, InStore}
 use Rattle.model.proofs.LogLaws.{length-put_le}
 use Rattle.model.specs.Steps.{following}
 use Rattle.model.specs.Rules.{JobState, place_of, step_or, step_of, in_stage, with_registers}
 use Rattle.model.specs.Intake.{fault_if, fault, bad_register, step_fault, steps_fault, bad_count, stops, admission_fault}
 use Rattle.model.specs.Law.{WellFormed}
+use Rattle.model.specs.declared.Refusal.{Refusal}
 use Rattle.model.specs.declared.Refusal.TheVariants.{TooManyJobs, StepCount, NoSuchRegister}
 use Rattle.model.specs.declared.Step.{Step}
 use Rattle.model.specs.declared.Step.TheVariants.{Read, Write, Load, Add, Subtract, JumpIfLess, Wait, End}
@@ -22,6 +26,7 @@ use Rattle.model.specs.declared.Stage.TheVariants.{Start, At, Rollback, Validate
 use Rattle.model.proofs.Basics.{zero_one}
 use Rattle.model.proofs.Admission.{neither, not_bad, no_fault, suffices}
 use Rattle.model.proofs.Follow.{step-at, goes_on}
+use Rattle.job.specs.Moves.{Makes}
 use Rattle.job.specs.Shape.{runnable, placed}
 
 -- The registers that a step names are there.
@@ -107,20 +112,28 @@ placed_at n program reads writes h r w =
     and_from (ltb n (length program)) (leb (length reads) n && leb (length writes) n) (lt-ltb n (length program) h)
     (and_from (leb (length reads) n) (leb (length writes) n) (le-leb (length reads) n r) (le-leb (length writes) n w))
 
--- The value in an option that is there.
-pub case_some : {A : Type 0} (o : Option A) (x : A) (P : Type 0) (Q : A → Type 0) → o ≡ Some x → MatchOption o P Q → Q x
-case_some o x P Q e h = subst (λ z. MatchOption z P Q) e h
+-- One step on, with logs that have at most one entry more.
+pub placed_on : (b l : JobState) (registers : List ℕ) (n : ℕ) (reads writes : Entries) → l ≡ with_registers (in_stage b (At (suc n))) registers → suc n < length b.program → length reads ≤ suc n → length writes ≤ suc n → placed l.stage l.program reads writes ≡ true
+placed_on b l registers n reads writes e h r w =
+    subst (λ z. placed z.stage z.program reads writes ≡ true) (sym e) (placed_at (suc n) b.program reads writes h r w)
 
--- A log that was put into a row.
-pub row_put : (o : Option Log) (x : Log) (row before : LogRow) (c v : ℕ) → o ≡ Some x → IfSome o (λ l. entries_of l.row ≡ put (entries_of before) c v) → row ≡ x.row → entries_of row ≡ put (entries_of before) c v
-row_put o x row before c v e h r = ap entries_of r ∙ case_some o x (Unit {0}) (λ l. entries_of l.row ≡ put (entries_of before) c v) e h
+-- What a reading and a writing leave has at most one entry more.
+pub after_reading : (cells : List ℕ) (c n : ℕ) (old new : Logs) (r : Result Reading Refusal) (x : Reading) → r ≡ Ok x → IfOk r (λ y. FoundIn cells c old new y.number y.found) → length (entries_of old.reads) ≤ n → length (entries_of old.writes) ≤ n → (length (entries_of new.reads) ≤ suc n) × (length (entries_of new.writes) ≤ suc n)
+after_reading cells c n old new r x e h = after x.number x.found (subst (λ z. IfOk z (λ y. FoundIn cells c old new y.number y.found)) e h)
+  where
+    after : (v : ℕ) (found : Found) → FoundIn cells c old new v found → length (entries_of old.reads) ≤ n → length (entries_of old.writes) ≤ n → (length (entries_of new.reads) ≤ suc n) × (length (entries_of new.writes) ≤ suc n)
+    after v InWrites h r w = rw (h.1) (omega arith, omega arith)
+    after v InReads h r w = rw (h.2) (omega arith, omega arith)
+    after v InStore h r w =
+        let writes = ap (λ z. length (entries_of z)) h.4 in
+        (omega (arith, ap length h.3, length-put_le c v (entries_of old.reads)), omega arith)
 
--- One step on, with one entry more in the read log.
-pub placed_read : (b l : JobState) (registers : List ℕ) (n c v : ℕ) (es : Entries) → l ≡ with_registers (in_stage b (At (suc n))) registers → suc n < length b.program → length b.reads ≤ n → length b.writes ≤ n →
-    es ≡ put b.reads c v → placed l.stage l.program es l.writes ≡ true
-placed_read b l registers n c v es e h r w q =
-    subst (λ z. placed z.stage z.program es z.writes ≡ true) (sym e)
-    (placed_at (suc n) b.program es b.writes h (omega (arith, ap length q, length-put_le c v b.reads, r)) (omega (arith, w)))
+pub after_writing : (c v n : ℕ) (old new : Logs) (r : Result (Unit {0}) Refusal) (x : Unit {0}) → r ≡ Ok x → OnOk r ((entries_of new.writes ≡ put (entries_of old.writes) c v) × (new.reads ≡ old.reads)) → length (entries_of old.reads) ≤ n → length (entries_of old.writes) ≤ n → (length (entries_of new.reads) ≤ suc n) × (length (entries_of new.writes) ≤ suc n)
+after_writing c v n old new r x e h =
+    let p = subst (λ z. OnOk z ((entries_of new.writes ≡ put (entries_of old.writes) c v) × (new.reads ≡ old.reads))) e h in
+    λ reads writes.
+    let same = ap (λ z. length (entries_of z)) p.1 in
+    (omega arith, omega (arith, ap length p.0, length-put_le c v (entries_of old.writes)))
 
 -- Fewer entries in the write log do no harm.
 pub placed_less : (st : Stage) (program : List Step) (reads writes fewer : Entries) → length fewer ≤ length writes → placed st program reads writes ≡ true → placed st program reads fewer ≡ true
@@ -133,3 +146,14 @@ placed_less Rollback program reads writes fewer h e = refl
 placed_less Validate program reads writes fewer h e = refl
 placed_less Commit program reads writes fewer h e = refl
 placed_less Done program reads writes fewer h e = refl
+
+-- A step that makes a number is followed by the next one, and its register is there.
+pub makes_on : (b : JobState) (n r number : ℕ) (st : Step) → AtPlace b n st → Makes st b.registers r number → (suc n < length b.program) × (r < 8)
+makes_on b n r number (Read q c) here m = absurd m
+makes_on b n r number (Write c q) here m = absurd m
+makes_on b n r number (Load q v) here m = ((here.goes refl).1, rw (m.0) here.registers)
+makes_on b n r number (Add q p) here m = ((here.goes refl).1, rw (m.0) here.registers.0)
+makes_on b n r number (Subtract q p) here m = ((here.goes refl).1, rw (m.0) here.registers.0)
+makes_on b n r number (JumpIfLess q p t) here m = absurd m
+makes_on b n r number Wait here m = absurd m
+makes_on b n r number End here m = absurd m

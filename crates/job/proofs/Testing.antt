@@ -1,6 +1,7 @@
 -- The tests of admission, step by step.
 use Rattle.std.proofs.Common.{◌≡◌, ℕ, suc, ◌+◌, ◌-◌, ◌^◌, ◌<◌, ◌≤◌, true, false, not, leb, List, [], ◌∷◌, length, get_or, drop, is_some, Some, None, Option, sym, refl, ap, ◌∙◌, arith}
 use Rattle.std.proofs.lemmas.List.{drop_more, drop_all}
+use Rattle.std.specs.List.{slice_get}
 use Rattle.std.specs.Option.{option_or}
 use Rattle.std.proofs.lemmas.Bool.{leb-false, lt-leb}
 use Rattle.model.specs.Intake.{fault, fault_if, bad_register, bad_cell, bad_count, step_fault, steps_fault, stops, last_stops, admission_fault}
@@ -12,16 +13,19 @@ use Rattle.model.proofs.Basics.{zero_one}
 use Rattle.model.proofs.Admission.{neither, not_bad, suffices}
 use Rattle.job.specs.Shape.{runnable}
 
-pub last_none : (steps : List Step) → length steps ≡ 0 → false ≡ last_stops steps
-last_none [] h = refl
-last_none (x ∷ steps) h = absurd (omega arith)
+-- Past the first of two steps, the last one stays.
+last_of : (x y : Step) (steps : List Step) → slice_get (x ∷ y ∷ steps) (length (x ∷ y ∷ steps) - 1) ≡ slice_get (y ∷ steps) (length (y ∷ steps) - 1)
+last_of x y steps = let e : length (x ∷ y ∷ steps) - 1 ≡ suc (length (y ∷ steps) - 1) = omega arith in ap (slice_get (x ∷ y ∷ steps)) e
 
-pub last_at : (steps : List Step) (d : Step) → (length steps ≡ 0 → ⊥) → stops (get_or steps (length steps - 1) d) ≡ last_stops steps
-last_at [] d h = absurd (h refl)
-last_at (x ∷ []) d h = refl
-last_at (x ∷ y ∷ steps) d h =
-    let e : length (x ∷ y ∷ steps) - 1 ≡ suc (length (y ∷ steps) - 1) = omega arith in
-    ap (λ (k : ℕ). stops (get_or (x ∷ y ∷ steps) k d)) e ∙ last_at (y ∷ steps) d (λ q. omega arith)
+pub last_none : (steps : List Step) → None ≡ slice_get steps (length steps - 1) → false ≡ last_stops steps
+last_none [] e = refl
+last_none (x ∷ []) e = zero_one (cc)
+last_none (x ∷ y ∷ steps) e = last_none (y ∷ steps) (e ∙ last_of x y steps)
+
+pub last_some : (steps : List Step) (last : Step) → Some last ≡ slice_get steps (length steps - 1) → stops last ≡ last_stops steps
+last_some [] last e = zero_one (cc)
+last_some (x ∷ []) last e = let q : last ≡ x = cc in ap stops q
+last_some (x ∷ y ∷ steps) last e = last_some (y ∷ steps) last (e ∙ last_of x y steps)
 
 -- At step i: the first fault is this step's, or one of a later step.
 pub fault_here : (count n m : ℕ) (steps : List Step) (i : ℕ) (d : Step) (f : Option Fault) → i < length steps → f ≡ step_fault count n m (get_or steps i d) → is_some f ≡ true → f ≡ steps_fault count n m (drop i steps)

@@ -10,8 +10,8 @@ job_of b =
       program = take b.steps b.program;
       stage = b.stage;
       registers = b.registers;
-      reads = entries_of b.reads;
-      writes = entries_of b.writes;
+      reads = entries_of b.logs.reads;
+      writes = entries_of b.logs.writes;
       marked = b.marked;
       starts = b.starts;
     }

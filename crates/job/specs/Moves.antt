@@ -1,10 +1,16 @@
 -- What a job's turn comes to, as the model's turn has it. Assumes nothing.
-use Rattle.std.specs.Prelude.{◌≡◌, ℕ, List, Some, None, Ok, Option}
+use Rattle.std.specs.Prelude.{◌≡◌, ℕ, ◌+◌, ◌-◌, ◌%◌, ◌^◌, List, Some, None, Ok, Option}
 use Rattle.model.specs.Logs.{find, remove, lowest, any, value_in, put_at}
 use Rattle.model.specs.Rules.{JobState, State, counted, with_logs, with_job}
+use Rattle.model.specs.Steps.{register}
 use Rattle.model.specs.declared.Entry.{Entry}
+use Rattle.model.specs.declared.Step.{Step}
+use Rattle.model.specs.declared.Step.TheVariants.{Read, Write, Load, Add, Subtract, JumpIfLess, Wait, End}
 use Rattle.model.specs.Calls.{turn_of}
-use Rattle.model.specs.declared.Rule.TheVariants.{V3}
+use Rattle.model.specs.declared.Rule.{Rule}
+use Rattle.model.specs.declared.Rule.TheVariants.{R1, R2, R3, V3}
+use Rattle.cell_log.specs.declared.both.Found.{Found}
+use Rattle.cell_log.specs.declared.both.Found.TheVariants.{InWrites, InReads, InStore}
 use Rattle.model.specs.declared.Stage.TheVariants as stage
 use Rattle.job.specs.Shape.{is_done}
 use Rattle.job.specs.declared.moves.Move.{Move}
@@ -39,3 +45,20 @@ Moves cells right b b' move = (s : State) (j : ℕ) → s.cells ≡ cells → s.
 abbrev pub WriteOf : JobState → JobState → Option Entry → Type 0
 WriteOf b b' None = (lowest any b.writes ≡ None) × (b' ≡ b)
 WriteOf b b' (Some e) = (lowest any b.writes ≡ Some e.cell) × (value_in (find b.writes e.cell) ≡ e.number) × (b' ≡ with_logs b b.reads (remove b.writes e.cell))
+
+-- The rule under which a number is read that was found there.
+abbrev pub read_rule : Found → Rule
+read_rule InWrites = R1
+read_rule InReads = R2
+read_rule InStore = R3
+
+-- The number that a step makes of the registers, and the register that it goes into.
+abbrev pub Makes : Step → List ℕ → ℕ → ℕ → Type 0
+Makes (Read r cell) registers r' number = ⊥
+Makes (Write cell r) registers r' number = ⊥
+Makes (Load r v) registers r' number = (r' ≡ r) × (number ≡ v)
+Makes (Add r q) registers r' number = (r' ≡ r) × (number ≡ (register registers r + register registers q) % 2 ^ 32)
+Makes (Subtract r q) registers r' number = (r' ≡ r) × (number ≡ (register registers r + (2 ^ 32 - register registers q)) % 2 ^ 32)
+Makes (JumpIfLess r q target) registers r' number = ⊥
+Makes Wait registers r' number = ⊥
+Makes End registers r' number = ⊥

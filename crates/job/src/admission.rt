@@ -1,5 +1,5 @@
-ghost use Rattle.std.specs.Prelude.{◌≡◌, ◌+◌, ◌≤◌, true, length};
-ghost use Rattle.model.specs.Intake.{bad_register, bad_cell, bad_jump, step_fault, steps_fault, stops, last_stops, admission_fault};
+ghost use Rattle.std.specs.Prelude.{◌≡◌, ◌≤◌, length};
+ghost use Rattle.model.specs.Intake.{bad_register, bad_cell, bad_jump, fault, fault_if, step_fault, steps_fault, stops, last_stops, admission_fault};
 
 use model::{Fault, Refusal, Step};
 
@@ -13,35 +13,29 @@ pub(crate) const REGISTERS: usize = 8;
 const LAST_REGISTER: u32 = 7;
 
 // Why these steps are not admitted after so many jobs, over a store of so many cells: the first test that fails.
+// An Option and no Result: the faults of two tests are joined by `or`, and `Job::admit` alone makes an Err of one.
 pub fn admission_fault(jobs: usize, count: usize, steps: &[Step]) -> Option<Fault>
     ensures { result ≡ admission_fault jobs count steps.now }
 {
     if jobs >= MOST_JOBS {
-        return Some(Fault {
-            refusal: Refusal::TooManyJobs,
-            step: 0,
-            field: 0,
-        });
+        return fault_if(true, Refusal::TooManyJobs, 0, 0);
     }
-    if steps.len() == 0 || steps.len() > MOST_STEPS {
-        return Some(Fault {
-            refusal: Refusal::StepCount,
-            step: 0,
-            field: 0,
-        });
+    if steps.is_empty() || steps.len() > MOST_STEPS {
+        return fault_if(true, Refusal::StepCount, 0, 0);
     }
-    let fault = first_fault(count, steps);
-    if fault.is_some() {
-        return fault;
-    }
-    if !last_stops(steps) {
-        return Some(Fault {
-            refusal: Refusal::LastStep,
-            step: steps.len() as u32,
-            field: 0,
-        });
-    }
-    None
+    let last = steps.len() as u32;
+    first_fault(count, steps).or(fault_if(!last_stops(steps), Refusal::LastStep, last, 0))
+}
+
+// A fault of that step and field, where the test is bad.
+fn fault_if(bad: bool, refusal: Refusal, step: u32, field: u32) -> Option<Fault>
+    ensures { result ≡ fault_if bad (fault refusal step field) }
+{
+    bad.then_some(Fault {
+        refusal,
+        step,
+        field,
+    })
 }
 
 // The first fault of a step, step by step.
@@ -49,8 +43,11 @@ fn first_fault(count: usize, steps: &[Step]) -> Option<Fault>
     requires { length steps.now ≤ 24 }
     ensures { result ≡ steps_fault count (length steps.now) 1 steps.now }
 {
-    for i in 0..steps.len() {
-        let fault = step_fault(count, steps.len(), i + 1, steps[i]);
+    let cells = count;
+    let length = steps.len();
+    for (i, step) in steps.iter().enumerate() {
+        let n = i as u32 + 1;
+        let fault = Tests { n, cells, length }.step(*step);
         if fault.is_some() {
             return fault;
         }
@@ -58,98 +55,74 @@ fn first_fault(count: usize, steps: &[Step]) -> Option<Fault>
     None
 }
 
-// What is wrong with step n, from 1: a register, then a cell, then a jump.
-fn step_fault(count: usize, steps: usize, n: usize, step: Step) -> Option<Fault>
-    requires { n ≤ 24 }
-    ensures { result ≡ step_fault count steps n step }
-{
-    match step {
-        Step::Read { register, cell } => bad_register(n, 1, register).or(bad_cell(
-            count, n, 2, cell,
-        )),
-        Step::Write { cell, register } => bad_register(n, 2, register).or(bad_cell(
-            count, n, 1, cell,
-        )),
-        Step::Load {
-            register,
-            number: _,
-        } => bad_register(n, 1, register),
-        Step::Add { register, other } => bad_register(n, 1, register).or(bad_register(n, 2, other)),
-        Step::Subtract { register, other } => bad_register(n, 1, register).or(bad_register(
-            n, 2, other,
-        )),
-        Step::JumpIfLess {
-            register,
-            other,
-            step,
-        } => {
-            let registers = bad_register(n, 1, register).or(bad_register(n, 2, other));
-            registers.or(bad_jump(steps, n, 3, step))
+// What step n, from 1, is tested by: how many cells there are, and how many steps.
+#[derive(Clone, Copy)]
+struct Tests {
+    n: u32,
+    cells: usize,
+    length: usize,
+}
+
+impl Tests {
+    // What is wrong with the step: a register, then a cell, then a jump.
+    fn step(self, step: Step) -> Option<Fault>
+        ensures { result ≡ step_fault self.cells self.length self.n step }
+    {
+        match step {
+            Step::Read { register, cell } => self.register(1, register).or(self.cell(2, cell)),
+            Step::Write { cell, register } => self.register(2, register).or(self.cell(1, cell)),
+            Step::Load {
+                register,
+                number: _,
+            } => self.register(1, register),
+            Step::Add { register, other } | Step::Subtract { register, other } => self
+                .register(1, register)
+                .or(self.register(2, other)),
+            Step::JumpIfLess {
+                register,
+                other,
+                step,
+            } => {
+                let registers = self.register(1, register).or(self.register(2, other));
+                registers.or(self.jump(3, step))
+            }
+            Step::Wait | Step::End => None,
         }
-        Step::Wait | Step::End => None,
     }
-}
 
-fn bad_register(n: usize, field: u32, register: u32) -> Option<Fault>
-    requires { n ≤ 24 }
-    ensures { result ≡ bad_register n field register }
-{
-    if register > LAST_REGISTER {
-        Some(Fault {
-            refusal: Refusal::NoSuchRegister,
-            step: n as u32,
-            field,
-        })
-    } else {
-        None
+    fn register(self, field: u32, register: u32) -> Option<Fault>
+        ensures { result ≡ bad_register self.n field register }
+    {
+        let bad = register > LAST_REGISTER;
+        fault_if(bad, Refusal::NoSuchRegister, self.n, field)
     }
-}
 
-fn bad_cell(count: usize, n: usize, field: u32, cell: u32) -> Option<Fault>
-    requires { n ≤ 24 }
-    ensures { result ≡ bad_cell count n field cell }
-{
-    if cell as usize >= count {
-        Some(Fault {
-            refusal: Refusal::NoSuchCell,
-            step: n as u32,
-            field,
-        })
-    } else {
-        None
+    fn cell(self, field: u32, cell: u32) -> Option<Fault>
+        ensures { result ≡ bad_cell self.cells self.n field cell }
+    {
+        let bad = cell as usize >= self.cells;
+        fault_if(bad, Refusal::NoSuchCell, self.n, field)
     }
-}
 
-fn bad_jump(steps: usize, n: usize, field: u32, target: u32) -> Option<Fault>
-    requires { n ≤ 24 }
-    ensures { result ≡ bad_jump steps n field target }
-{
-    let target = target as usize;
-    if target <= n || target > steps {
-        Some(Fault {
-            refusal: Refusal::NoLaterStep,
-            step: n as u32,
-            field,
-        })
-    } else {
-        None
+    fn jump(self, field: u32, target: u32) -> Option<Fault>
+        ensures { result ≡ bad_jump self.length self.n field target }
+    {
+        let bad = target <= self.n || target as usize > self.length;
+        fault_if(bad, Refusal::NoLaterStep, self.n, field)
     }
 }
 
 fn last_stops(steps: &[Step]) -> bool
     ensures { result ≡ last_stops steps.now }
 {
-    if steps.len() == 0 {
-        return false;
+    match steps.last() {
+        Some(step) => stops(*step),
+        None => false,
     }
-    stops(steps[steps.len() - 1])
 }
 
 fn stops(step: Step) -> bool
     ensures { result ≡ stops step }
 {
-    match step {
-        Step::Wait | Step::End => true,
-        _ => false,
-    }
+    matches!(step, Step::Wait | Step::End)
 }

@@ -10,7 +10,7 @@ ghost use Rattle.job.specs.Moves.{Moves, WriteOf};
 use crate::admission::{MOST_STEPS, REGISTERS, admission_fault};
 use crate::job::Job;
 use crate::moves::Move;
-use cell_log::LogRow;
+use cell_log::{Logs, Lookups};
 use model::{Entry, Fault, Stage, Step};
 use store::Store;
 
@@ -37,8 +37,7 @@ impl Job {
             steps: steps.len(),
             stage: Stage::Start,
             registers: [0; REGISTERS],
-            reads: LogRow::empty(),
-            writes: LogRow::empty(),
+            logs: Logs::empty(),
             marked: false,
             starts: 0,
         })
@@ -48,16 +47,7 @@ impl Job {
     pub fn blank() -> Job
         ensures { job_of result ≡ new_job (step.End ∷ []) }
     {
-        Job {
-            program: [Step::End; MOST_STEPS],
-            steps: 1,
-            stage: Stage::Start,
-            registers: [0; REGISTERS],
-            reads: LogRow::empty(),
-            writes: LogRow::empty(),
-            marked: false,
-            starts: 0,
-        }
+        Job::default()
     }
 
     // Applies the first rule of the job's stage that fits, as far as it changes the job.
@@ -69,10 +59,12 @@ impl Job {
             (Stage::At(n), Step::Read { register, cell }, _) => self.read(store, n, register, cell),
             (Stage::At(n), Step::Write { cell, register }, _) => self.write(n, cell, register),
             (Stage::At(n), Step::Load { register, number }, _) => self.put(n, register, number),
-            (Stage::At(n), Step::Add { register, other }, _) => self.add(n, register, other),
-            (Stage::At(n), Step::Subtract { register, other }, _) => self.subtract(
-                n, register, other,
-            ),
+            (Stage::At(n), Step::Add { register, other }, _) => {
+                self.put(n, register, self.at(register).wrapping_add(self.at(other)))
+            }
+            (Stage::At(n), Step::Subtract { register, other }, _) => {
+                self.put(n, register, self.at(register).wrapping_sub(self.at(other)))
+            }
             (
                 Stage::At(n),
                 Step::JumpIfLess {
@@ -109,11 +101,9 @@ impl Job {
     pub fn take_write(&mut self) -> Option<Entry>
         ensures { WriteOf (job_of self.old) (job_of self.new) result }
     {
-        let cell = self.writes.lowest()?;
-        let writes = self.write_log();
-        let number = writes.number(cell).unwrap_or(0);
-        self.writes = writes.remove(cell).into_row();
-        Some(Entry { cell, number })
+        let entry = *self.logs.writes.entries().first()?;
+        self.logs.forget_write(entry.cell);
+        Some(entry)
     }
 
     // The job has committed.
@@ -131,10 +121,19 @@ impl Job {
     }
 }
 
+// A job that only ends.
 impl Default for Job {
     ghost is_default = { λ b. job_of b ≡ new_job (step.End ∷ []) };
 
     fn default() -> Job {
-        Job::blank()
+        Job {
+            program: [Step::End; MOST_STEPS],
+            steps: 1,
+            stage: Stage::Start,
+            registers: [0; REGISTERS],
+            logs: Logs::empty(),
+            marked: false,
+            starts: 0,
+        }
     }
 }

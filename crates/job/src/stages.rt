@@ -1,15 +1,16 @@
 ghost use Rattle.std.specs.Prelude.{◌≡◌, ℕ, suc, ◌<◌, List, length, Some, None, slice_set};
 ghost use Rattle.std.specs.declared.option.Option as option;
+ghost use Rattle.model.specs.Steps.{register};
 ghost use Rattle.model.specs.Rules.{step_of, in_stage, with_registers};
 ghost use Rattle.model.specs.declared.Stage.TheVariants.{Start, At, Validate, Rollback};
 ghost use Rattle.model.specs.declared.Step.TheVariants as step;
 ghost use Rattle.job.specs.Jobs.{job_of};
-ghost use Rattle.job.specs.Moves.{Moves};
+ghost use Rattle.job.specs.Moves.{Moves, Makes, read_rule};
 
 use crate::admission::REGISTERS;
 use crate::job::Job;
 use crate::moves::Move;
-use cell_log::{Log, number_at};
+use cell_log::{Found, Lookups};
 use model::{Applied, Rule, Stage, Step};
 use store::Store;
 
@@ -29,6 +30,19 @@ fn applies_at(rule: Rule, cell: u32) -> Move
     })
 }
 
+// The rule under which a number is read that was found there.
+fn read_rule(found: Found) -> Rule
+    ensures { result ≡ read_rule found }
+{
+    match found {
+        Found::InWrites => Rule::R1,
+        Found::InReads => Rule::R2,
+        Found::InStore => Rule::R3,
+    }
+}
+
+// What `turn` has matched, the stage and the step, each method is told in its own contract: a job is matched whole and
+// in one place, and a type that held a job at its step would only match it again.
 impl Job {
     // The step at which the job stands.
     pub(crate) fn step(&self) -> Step
@@ -40,30 +54,17 @@ impl Job {
         }
     }
 
-    // A log to be changed. The rows of a job always pass the check.
-    fn read_log(&self) -> Log
-        ensures { result.row ≡ self.now.reads }
-    {
-        Log::from_row(self.reads).unwrap()
-    }
-
-    pub(crate) fn write_log(&self) -> Log
-        ensures { result.row ≡ self.now.writes }
-    {
-        Log::from_row(self.writes).unwrap()
-    }
-
     // Empties the logs, entry by entry, and starts.
     pub(crate) fn start(&mut self) -> Move
         requires stage { self.old.stage ≡ Start }
         ensures { (C : List ℕ) (right : option.Option ℕ) → Moves C right (job_of self.old) (job_of self.new) result }
     {
-        if let Some(cell) = self.writes.lowest() {
-            self.writes = self.write_log().remove(cell).into_row();
+        if let Some(cell) = self.logs.writes.lowest() {
+            self.logs.forget_write(cell);
             return applies_at(Rule::S1, cell);
         }
-        if let Some(cell) = self.reads.lowest() {
-            self.reads = self.read_log().remove(cell).into_row();
+        if let Some(cell) = self.logs.reads.lowest() {
+            self.logs.forget_read(cell);
             return applies_at(Rule::S2, cell);
         }
         self.registers = [0; REGISTERS];
@@ -78,6 +79,14 @@ impl Job {
     {
         self.stage = Stage::Start;
         applies(Rule::Rb)
+    }
+
+    // The number in a register.
+    pub(crate) fn at(&self, r: u32) -> u32
+        requires { r < 8 }
+        ensures { result ≡ register self.now.registers r }
+    {
+        self.registers[r as usize]
     }
 
     // Puts a number into a register, and goes on to the next step.
@@ -96,19 +105,11 @@ impl Job {
         requires step { step_of (job_of self.old) ≡ step.Read register cell }
         ensures { (right : option.Option ℕ) → Moves (S.Store.cells store.now) right (job_of self.old) (job_of self.new) result }
     {
-        if let Some(number) = self.writes.number(cell) {
-            self.load(n, register, number);
-            return applies_at(Rule::R1, cell);
-        }
-        if let Some(number) = self.reads.number(cell) {
-            self.load(n, register, number);
-            return applies_at(Rule::R2, cell);
-        }
-        let number = number_at(store, cell);
-        let reads = self.read_log().put(cell, number).unwrap();
-        self.load(n, register, number);
-        self.reads = reads.into_row();
-        applies_at(Rule::R3, cell)
+        let mut logs = self.logs;
+        let reading = logs.read(store, cell).unwrap();
+        self.load(n, register, reading.number);
+        self.logs = logs;
+        applies_at(read_rule(reading.found), cell)
     }
 
     pub(crate) fn write(&mut self, n: u32, cell: u32, register: u32) -> Move
@@ -116,12 +117,10 @@ impl Job {
         requires step { step_of (job_of self.old) ≡ step.Write cell register }
         ensures { (C : List ℕ) (right : option.Option ℕ) → Moves C right (job_of self.old) (job_of self.new) result }
     {
-        let known = self.writes.number(cell).is_some();
-        let writes = self
-            .write_log()
-            .put(cell, self.registers[register as usize])
-            .unwrap();
-        self.writes = writes.into_row();
+        let known = self.logs.writes.number(cell).is_some();
+        let mut logs = self.logs;
+        logs.write(cell, self.at(register)).unwrap();
+        self.logs = logs;
         self.stage = Stage::At(n + 1);
         if known {
             applies_at(Rule::W1, cell)
@@ -130,34 +129,13 @@ impl Job {
         }
     }
 
+    // Puts what the step makes of the registers into its register.
     pub(crate) fn put(&mut self, n: u32, register: u32, number: u32) -> Move
         requires stage { self.old.stage ≡ At n }
-        requires step { step_of (job_of self.old) ≡ step.Load register number }
+        requires step { Makes (step_of (job_of self.old)) self.old.registers register number }
         ensures { (C : List ℕ) (right : option.Option ℕ) → Moves C right (job_of self.old) (job_of self.new) result }
     {
         self.load(n, register, number);
-        applies(Rule::P)
-    }
-
-    pub(crate) fn add(&mut self, n: u32, register: u32, other: u32) -> Move
-        requires stage { self.old.stage ≡ At n }
-        requires step { step_of (job_of self.old) ≡ step.Add register other }
-        ensures { (C : List ℕ) (right : option.Option ℕ) → Moves C right (job_of self.old) (job_of self.new) result }
-    {
-        let sum = self.registers[register as usize].wrapping_add(self.registers[other as usize]);
-        self.load(n, register, sum);
-        applies(Rule::P)
-    }
-
-    pub(crate) fn subtract(&mut self, n: u32, register: u32, other: u32) -> Move
-        requires stage { self.old.stage ≡ At n }
-        requires step { step_of (job_of self.old) ≡ step.Subtract register other }
-        ensures { (C : List ℕ) (right : option.Option ℕ) → Moves C right (job_of self.old) (job_of self.new) result }
-    {
-        let difference = self.registers[register as usize].wrapping_sub(
-            self.registers[other as usize],
-        );
-        self.load(n, register, difference);
         applies(Rule::P)
     }
 
@@ -166,7 +144,7 @@ impl Job {
         requires step { step_of (job_of self.old) ≡ step.JumpIfLess register other target }
         ensures { (C : List ℕ) (right : option.Option ℕ) → Moves C right (job_of self.old) (job_of self.new) result }
     {
-        if self.registers[register as usize] < self.registers[other as usize] {
+        if self.at(register) < self.at(other) {
             self.stage = Stage::At(target.saturating_sub(1));
         } else {
             self.stage = Stage::At(n + 1);
@@ -179,7 +157,7 @@ impl Job {
         requires step { step_of (job_of self.old) ≡ step.Wait }
         ensures { (right : option.Option ℕ) → Moves (S.Store.cells store.now) right (job_of self.old) (job_of self.new) result }
     {
-        match self.reads.lowest_changed(store) {
+        match self.logs.reads.lowest_changed(store) {
             Some(cell) => {
                 self.stage = Stage::Rollback;
                 applies_at(Rule::Rt, cell)
@@ -206,12 +184,12 @@ impl Job {
             self.stage = Stage::Rollback;
             return applies(Rule::V4);
         }
-        if let Some(cell) = self.reads.lowest_current(store) {
-            self.reads = self.read_log().remove(cell).into_row();
+        if let Some(cell) = self.logs.reads.lowest_current(store) {
+            self.logs.forget_read(cell);
             return applies_at(Rule::V1, cell);
         }
-        if let Some(cell) = self.reads.lowest_changed(store) {
-            self.reads = self.read_log().remove(cell).into_row();
+        if let Some(cell) = self.logs.reads.lowest_changed(store) {
+            self.logs.forget_read(cell);
             self.marked = false;
             self.stage = Stage::Rollback;
             return applies_at(Rule::V2, cell);

@@ -1,19 +1,23 @@
-use Rattle.std.proofs.Common.{refl, ap, arith}
-use Rattle.cell_log.specs.Rows.{entries_of}
+use Rattle.std.proofs.Common.{◌≡◌, Err, rules}
 use Rattle.correction.specs.Calls.{reading}
 use Rattle.correction.specs.Corrections.{correction_of}
-use Rattle.correction.proofs.Calling.{not-open, read-beyond, read-full}
+use Rattle.correction.proofs.Calling.{refused, found, unread}
 use Rattle.correction.proofs.correction.Correction.read.Goals as goal
 
-pub returns-then-not-self : goal.returns-then-not-self
-returns-then-not-self g c =
-    not-open (reading c.args.cell) (g.S.Store.cells c.args.store.now) (correction_of c.args.self.now) (λ s k. refl) c.if-not-self.true
+pub returns-in_err-check_access : goal.returns-in_err-check_access
+returns-in_err-check_access g c =
+    let told : c.from_residual.result ≡ Err c.in_err-check_access.field-0.0 = search rules in
+    refused (reading c.args.cell) (g.S.Store.cells c.args.store.now) (correction_of c.args.self.now) _ _ told (λ s k hc. (c.in_err-check_access.ensures.err s k hc).0)
 
-pub returns-then-cell-count : goal.returns-then-cell-count
-returns-then-cell-count g c =
-    read-beyond (g.S.Store.cells c.args.store.now) (correction_of c.args.self.now) c.args.cell c.if-not-self.false (omega (arith, c.if-cell-count.true, c.count.ensures.value))
+pub returns-in_err-reading : goal.returns-in_err-reading
+returns-in_err-reading g c =
+    let b = c.args.self.now in
+    let here = c.in_ok-check_access.ensures.ok in
+    let told : c.from_residual-in_err-reading.result ≡ Err c.in_err-reading.field-0.0 = search rules in
+    unread (g.S.Store.cells c.args.store.now) c.args.cell b.logs b.is_open here.0 here.1 c.read.new.self _ _ told c.in_err-reading.ensures.err
 
-pub returns-in_default-put : goal.returns-in_default-put
-returns-in_default-put g c =
-    read-full (g.S.Store.cells c.args.store.now) (correction_of c.args.self.now) c.args.cell c.if-not-self.false (entries_of c.read_log.result.row)
-    (ap entries_of c.read_log.ensures) (omega (arith, c.if-cell-count.false, c.count.ensures.value)) c.in_default.ensures c.in_default-put.ensures.answer
+pub returns : goal.returns
+returns g c =
+    let b = c.args.self.now in
+    let here = c.in_ok-check_access.ensures.ok in
+    found (g.S.Store.cells c.args.store.now) c.args.cell b.logs b.is_open here.0 here.1 c.read.new.self c.read.result _ c.in_ok-reading.was c.read.ensures.ok

@@ -12,7 +12,7 @@ invariant_of-result c =
     let steps = c.args.steps.now in
     let fine = sym c.in_default.ensures in
     let fits : c.args.count ≤ 2 ^ 64 = omega arith in
-    record { short = few-steps c.args.jobs c.args.count steps fine; runnable = ap runnable c.program_of.ensures ∙ runs c.args.jobs c.args.count steps fits fine; readable = c.empty.ensures.ordered; writable = c.empty-2.ensures.ordered; placed = refl }
+    record { short = few-steps c.args.jobs c.args.count steps fine; runnable = ap runnable c.program_of.ensures ∙ runs c.args.jobs c.args.count steps fits fine; placed = refl }
 
 pub returns : goal.returns
 returns c = (
@@ -21,8 +21,8 @@ returns c = (
     program = c.program_of.ensures i;
     stage = Start;
     registers = replicate 8 0;
-    reads = c.empty.ensures.value i;
-    writes = c.empty-2.ensures.value i;
+    reads = c.empty.ensures.reads i;
+    writes = c.empty.ensures.writes i;
     marked = false;
     starts = 0;
   },

@@ -1,34 +1,25 @@
-use Rattle.std.proofs.Common.{refl, ap, ◌∙◌}
-use Rattle.model.specs.Logs.{put}
+use Rattle.std.proofs.Common.{refl}
 use Rattle.model.specs.declared.Step.TheVariants.{Read}
 use Rattle.cell_log.specs.Rows.{entries_of}
 use Rattle.job.specs.Jobs.{job_of}
-use Rattle.job.proofs.Placing.{row_put, placed_read}
+use Rattle.job.proofs.Placing.{placed_on, after_reading}
 use Rattle.job.proofs.Standing.{standing}
 use Rattle.job.proofs.job.Job.read.Goals as goal
 
-pub load-requires : goal.load-requires
-load-requires g c =
-    let b = c.args.self.now in
-    let here = standing b c.args.n (Read c.args.register c.args.cell) c.requires.stage c.requires.step in
-    record { stage = c.requires.stage; within = (here.goes refl).1; register = here.registers }
+pub load-requires-clause-within : goal.load-requires-clause-within
+load-requires-clause-within g c =
+    let here = standing c.args.self.now c.args.n (Read c.args.register c.args.cell) c.requires.stage c.requires.step in
+    (here.goes refl).1
 
-pub load-requires-in-Some-number : goal.load-requires-in-Some-number
-load-requires-in-Some-number g c =
-    let b = c.args.self.now in
-    let here = standing b c.args.n (Read c.args.register c.args.cell) c.requires.stage c.requires.step in
-    record { stage = c.requires.stage; within = (here.goes refl).1; register = here.registers }
+pub load-requires-clause-register : goal.load-requires-clause-register
+load-requires-clause-register g c =
+    (standing c.args.self.now c.args.n (Read c.args.register c.args.cell) c.requires.stage c.requires.step).registers
 
-pub load-requires-2 : goal.load-requires-2
-load-requires-2 g c =
+pub invariant_of-self-clause-placed : goal.invariant_of-self-clause-placed
+invariant_of-self-clause-placed g c =
     let b = c.args.self.now in
-    let here = standing b c.args.n (Read c.args.register c.args.cell) c.requires.stage c.requires.step in
-    record { stage = c.requires.stage; within = (here.goes refl).1; register = here.registers }
-
-pub invariant_of-self : goal.invariant_of-self
-invariant_of-self g c =
-    let b = c.args.self.now in
-    let l = c.load-2.new.self in
     let n = c.args.n in
+    let new = c.read.new.self in
     let here = standing b n (Read c.args.register c.args.cell) c.requires.stage c.requires.step in
-    let e = row_put c.put.result c.unwrap-reads.result c.into_row-self.result c.read_log.result.row c.args.cell c.number_at-number.result c.unwrap-reads.ensures c.put.ensures.value c.into_row-self.ensures.same in record { short = l.short; runnable = l.runnable; readable = c.into_row-self.ensures.ordered; writable = l.writable; placed = placed_read (job_of b) (job_of l) _ n c.args.cell c.number_at-number.result (entries_of c.into_row-self.result) c.load-2.ensures (here.goes refl).1 here.reads here.writes (e ∙ ap (λ r. put (entries_of r) c.args.cell c.number_at-number.result) c.read_log.ensures) }
+    let few = after_reading (g.S.Store.cells c.args.store.now) c.args.cell n b.logs new c.read.result c.unwrap-reading.result c.unwrap-reading.ensures c.read.ensures.ok here.reads here.writes in
+    placed_on (job_of b) (job_of c.load.new.self) _ n (entries_of new.reads) (entries_of new.writes) c.load.ensures (here.goes refl).1 few.0 few.1

@@ -1,8 +1,9 @@
 use Rattle.std.proofs.Common.{◌≡◌, drop}
 use Rattle.model.specs.Logs.{set_all}
-use Rattle.cell_log.proofs.scans.set_each.Given as goal
+use Rattle.cell_log.proofs.lookups.Lookups.set_all.Given as goal
 
 abbrev pub invariant-loop-logged : goal.invariant-loop-logged
 invariant-loop-logged g l =
-    (set_all (drop l.logged-index l.entries) (g.S.Store.cells l.store) ≡ set_all l.entries (g.S.Store.cells l.initial.store))
+    let log = g.Self.Lookups.list l.self in
+    (set_all (drop l.logged-index log) (g.S.Store.cells l.store) ≡ set_all log (g.S.Store.cells l.initial.store))
     × (g.S.Store.loan l.store ≡ g.S.Store.loan l.initial.store)
