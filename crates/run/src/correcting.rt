@@ -1,12 +1,12 @@
 ghost use Rattle.std.specs.Prelude.{◌≡◌, IfErr};
 ghost use Rattle.model.specs.Calls.{call, Open, Read, Write, File, Withdraw, OfOpening, OfReading, OfAcceptance};
-ghost use Rattle.table.specs.Slips.{numbers_of, opening, filing};
 ghost use Rattle.run.specs.Runs.{state};
+ghost use Rattle.run.specs.Slips.{numbers_of, opening, filing};
 
 use crate::run::Run;
+use crate::slip::{Slip, Unfiled};
 use model::Refusal;
 use store::Store;
-use table::slip::{Slip, Unfiled};
 
 impl<S: Store> Run<S> {
     // Opens a correction and gives its slip.
@@ -15,7 +15,8 @@ impl<S: Store> Run<S> {
         ensures answer { OfOpening (opening result) ≡ (call (state S.Store.cells self.old) Open).answer }
         ensures loan { S.Store.loan self.new.store ≡ S.Store.loan self.old.store }
     {
-        self.table.open_correction()
+        let numbers = self.table.open_correction()?;
+        Ok(Slip { numbers })
     }
 
     // Reads a cell for a correction, from its logs or else from the store.
@@ -24,7 +25,7 @@ impl<S: Store> Run<S> {
         ensures answer { OfReading result ≡ (call (state S.Store.cells self.old) (Read (numbers_of slip.now) cell)).answer }
         ensures loan { S.Store.loan self.new.store ≡ S.Store.loan self.old.store }
     {
-        self.table.read(slip, &self.store, cell)
+        self.table.read(slip.numbers, &self.store, cell)
     }
 
     // Writes a number for a cell into the logs of a correction. No cell is set before the filing.
@@ -33,7 +34,7 @@ impl<S: Store> Run<S> {
         ensures answer { OfAcceptance result ≡ (call (state S.Store.cells self.old) (Write (numbers_of slip.now) cell number)).answer }
         ensures loan { S.Store.loan self.new.store ≡ S.Store.loan self.old.store }
     {
-        self.table.write(slip, &self.store, cell, number)
+        self.table.write(slip.numbers, &self.store, cell, number)
     }
 
     // Files a correction: sets its written cells, removes all marks and joins the commit order. Refused, it gives the
@@ -44,7 +45,7 @@ impl<S: Store> Run<S> {
         ensures unspent { IfErr result (λ u. u.slip ≡ slip) }
         ensures loan { S.Store.loan self.new.store ≡ S.Store.loan self.old.store }
     {
-        match self.table.file(&slip, &mut self.store) {
+        match self.table.file(slip.numbers, &mut self.store) {
             Ok(()) => {
                 slip.discard();
                 Ok(())
@@ -59,7 +60,7 @@ impl<S: Store> Run<S> {
         ensures answer { OfAcceptance result ≡ (call (state S.Store.cells self.old) (Withdraw (numbers_of slip))).answer }
         ensures loan { S.Store.loan self.new.store ≡ S.Store.loan self.old.store }
     {
-        let withdrawn = self.table.withdraw(&slip);
+        let withdrawn = self.table.withdraw(slip.numbers);
         slip.discard();
         withdrawn
     }

@@ -5,6 +5,5 @@ mod correcting;
 mod counts;
 pub mod intake;
 pub mod run;
+pub mod slip;
 mod turning;
-
-pub use table::slip;

@@ -2,7 +2,7 @@ ghost use Rattle.std.specs.Prelude.{◌≡◌, [], ◌∷◌};
 ghost use Rattle.model.specs.Calls.{Turn, File};
 ghost use Rattle.model.specs.Intake.{sealed};
 ghost use Rattle.model.specs.Law.{left_by};
-ghost use Rattle.table.specs.Slips.{numbers_of};
+ghost use Rattle.run.specs.Slips.{numbers_of};
 ghost use Rattle.table.specs.Intakes.{intake_of};
 
 use run::intake::Intake;

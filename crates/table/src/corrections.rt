@@ -4,10 +4,10 @@ ghost use Rattle.correction.specs.Calls.{reading, writing, withdrawing};
 ghost use Rattle.model.specs.Calls.{open_correction, file_by};
 ghost use Rattle.model.specs.Rules.{unmark};
 ghost use Rattle.table.specs.Corrections.{Finds, Corrects};
-ghost use Rattle.table.specs.Slips.{numbers_of, opening};
+ghost use Rattle.table.specs.Slips.{numbers, numbered};
 ghost use Rattle.table.specs.States.{state_of};
 
-use crate::slip::Slip;
+use crate::slip::SlipNumbers;
 use crate::table::Table;
 use correction::correction::Correction;
 use job::job::Job;
@@ -15,24 +15,24 @@ use model::{Party, Refusal};
 use store::Store;
 
 impl Table {
-    // Opens a correction and gives its slip.
-    pub fn open_correction(&mut self) -> Result<Slip, Refusal>
+    // Opens a correction and answers the numbers of its slip.
+    pub fn open_correction(&mut self) -> Result<SlipNumbers, Refusal>
         ensures next { (C : List ℕ) → state_of C self.new ≡ (open_correction (state_of C self.old)).next }
-        ensures answer { (C : List ℕ) → opening result ≡ (open_correction (state_of C self.old)).answer }
+        ensures answer { (C : List ℕ) → numbered result ≡ (open_correction (state_of C self.old)).answer }
     {
         if self.corrections.is_full() {
             return Err(Refusal::TooManyCorrections);
         }
         self.corrections.push(Correction::new());
-        Ok(Slip {
+        Ok(SlipNumbers {
             run: self.number,
             correction: self.corrections.len() as u32,
         })
     }
 
     // The place of the correction that a slip stands for, open or not.
-    fn place_by(&self, slip: &Slip) -> Result<usize, Refusal>
-        ensures { Finds self.now (numbers_of slip.now) result }
+    fn place_by(&self, slip: SlipNumbers) -> Result<usize, Refusal>
+        ensures { Finds self.now (numbers slip) result }
     {
         match (slip.correction as usize).checked_sub(1) {
             Some(i) if slip.run == self.number && i < self.corrections.len() => Ok(i),
@@ -41,8 +41,13 @@ impl Table {
     }
 
     // Reads a cell for the correction of a slip.
-    pub fn read<S: Store>(&mut self, slip: &Slip, store: &S, cell: u32) -> Result<u32, Refusal>
-        ensures { Corrects (reading cell) (S.Store.cells store.now) (S.Store.cells store.now) self.old self.new (numbers_of slip.now) result }
+    pub fn read<S: Store>(
+        &mut self,
+        slip: SlipNumbers,
+        store: &S,
+        cell: u32,
+    ) -> Result<u32, Refusal>
+        ensures { Corrects (reading cell) (S.Store.cells store.now) (S.Store.cells store.now) self.old self.new (numbers slip) result }
     {
         let i = self.place_by(slip)?;
         self.corrections[i].read(store, cell)
@@ -51,28 +56,28 @@ impl Table {
     // Writes a number for a cell, likewise.
     pub fn write<S: Store>(
         &mut self,
-        slip: &Slip,
+        slip: SlipNumbers,
         store: &S,
         cell: u32,
         number: u32,
     ) -> Result<(), Refusal>
-        ensures { Corrects (writing cell number) (S.Store.cells store.now) (S.Store.cells store.now) self.old self.new (numbers_of slip.now) result }
+        ensures { Corrects (writing cell number) (S.Store.cells store.now) (S.Store.cells store.now) self.old self.new (numbers slip) result }
     {
         let i = self.place_by(slip)?;
         self.corrections[i].write(store, cell, number)
     }
 
     // Closes the correction, likewise.
-    pub fn withdraw(&mut self, slip: &Slip) -> Result<(), Refusal>
-        ensures { (C : List ℕ) → Corrects withdrawing C C self.old self.new (numbers_of slip.now) result }
+    pub fn withdraw(&mut self, slip: SlipNumbers) -> Result<(), Refusal>
+        ensures { (C : List ℕ) → Corrects withdrawing C C self.old self.new (numbers slip) result }
     {
         let i = self.place_by(slip)?;
         self.corrections[i].withdraw()
     }
 
     // Sets what the correction wrote, removes all marks and joins the commit order, likewise.
-    pub fn file<S: Store>(&mut self, slip: &Slip, store: &mut S) -> Result<(), Refusal>
-        ensures run { Corrects file_by (S.Store.cells store.old) (S.Store.cells store.new) self.old self.new (numbers_of slip.now) result }
+    pub fn file<S: Store>(&mut self, slip: SlipNumbers, store: &mut S) -> Result<(), Refusal>
+        ensures run { Corrects file_by (S.Store.cells store.old) (S.Store.cells store.new) self.old self.new (numbers slip) result }
         ensures loan { S.Store.loan store.new ≡ S.Store.loan store.old }
     {
         let i = self.place_by(slip)?;

@@ -4,7 +4,7 @@ use Rattle.model.specs.Intake.{closed_cells}
 use Rattle.model.specs.Law.{left_by}
 use Rattle.model.proofs.Closing.{closing}
 use Rattle.run.specs.Runs.{state}
-use Rattle.table.specs.Slips.{numbers_of}
+use Rattle.run.specs.Slips.{numbers_of}
 use Rattle.run_tests.proofs.lawful.turn_and_file.Goals as goal
 
 pub returns : goal.returns

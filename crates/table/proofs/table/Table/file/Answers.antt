@@ -1,7 +1,7 @@
 use Rattle.std.proofs.Common.{Ok, Err, sym, refl, ap, ◌∙◌, arith}
 use Rattle.std.proofs.lemmas.Result.{err_from_is_err_and}
 use Rattle.model.specs.Calls.{file_by}
-use Rattle.table.specs.Slips.{numbers_of}
+use Rattle.table.specs.Slips.{numbers}
 use Rattle.table.proofs.Corrected.{as_many_opened, as_many-unmarked, unfinished-unmarked, jobs-unmarked, filed_fewer, file-refused, file-accepted, by_place, by-none}
 use Rattle.correction.specs.Corrections.{correction_of}
 use Rattle.table.proofs.Tabling.{row_read}
@@ -10,7 +10,7 @@ use Rattle.table.proofs.table.Table.file.Goals as goal
 pub returns-in_err-i-clause-run : goal.returns-in_err-i-clause-run
 returns-in_err-i-clause-run g c =
     let r = err_from_is_err_and c.from_residual.result c.from_residual.ensures.1 in
-    by-none file_by (g.S.Store.cells c.args.store.now) c.args.self.now (numbers_of c.args.slip.now) (λ s k. refl) c.in_err-i.field-0.0 c.in_err-i.ensures c.from_residual.result (r.1 ∙ ap Err r.2)
+    by-none file_by (g.S.Store.cells c.args.store.now) c.args.self.now (numbers c.args.slip) (λ s k. refl) c.in_err-i.field-0.0 c.in_err-i.ensures c.from_residual.result (r.1 ∙ ap Err r.2)
 
 pub returns-in_err-check-clause-run : goal.returns-in_err-check-clause-run
 returns-in_err-check-clause-run g c =
@@ -19,7 +19,7 @@ returns-in_err-check-clause-run g c =
     let here = row_read correction_of t.corrections c.deref.result.now c.in_ok-i.i c.index-deref-i.result c.deref.ensures.0 c.in_ok-i.ensures.0 c.index-deref-i.is in
     let e = file-refused C t c.in_ok-i.i c.index-deref-i.result here c.in_err-check.field-0.0 c.in_err-check.ensures in
     let r = err_from_is_err_and c.from_residual-in_err-check.result c.from_residual-in_err-check.ensures.1 in
-    by_place file_by C t (numbers_of c.args.slip.now) _ c.from_residual-in_err-check.result c.in_ok-i.i c.in_ok-i.ensures (sym (ap (λ o. o.next) e), (r.1 ∙ ap Err r.2) ∙ sym (ap (λ o. o.answer) e))
+    by_place file_by C t (numbers c.args.slip) _ c.from_residual-in_err-check.result c.in_ok-i.i c.in_ok-i.ensures (sym (ap (λ o. o.next) e), (r.1 ∙ ap Err r.2) ∙ sym (ap (λ o. o.answer) e))
 
 pub push-requires : goal.push-requires
 push-requires g c =
@@ -52,7 +52,7 @@ returns-clause-run g c =
     let t = c.args.self.now in
     let C = g.S.Store.cells c.args.store.now in
     let here = row_read correction_of t.corrections c.deref.result.now c.in_ok-i.i c.index-deref-i.result c.deref.ensures.0 c.in_ok-i.ensures.0 c.index-deref-i.is in
-    by_place file_by C t (numbers_of c.args.slip.now) _ (Ok tt) c.in_ok-i.i c.in_ok-i.ensures
+    by_place file_by C t (numbers c.args.slip) _ (Ok tt) c.in_ok-i.i c.in_ok-i.ensures
     (file-accepted C t c.in_ok-i.i c.index-deref-i.result here c.in_ok-check.ensures c.deref_mut.result.now c.index-deref_mut-i.result c.commit-written.new.self c.deref_mut.ensures.value c.in_ok-i.ensures.0
     c.commit-written.ensures.closed
     (g.S.Store.cells c.commit-written.new.store) c.commit-written.result _ c.push.new.self.items c.commit-written.ensures.after c.commit-written.ensures.count

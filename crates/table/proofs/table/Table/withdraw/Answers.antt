@@ -1,14 +1,14 @@
 use Rattle.std.proofs.Common.{[], Err, refl, ap, ◌∙◌, arith}
 use Rattle.std.proofs.lemmas.Result.{err_from_is_err_and}
 use Rattle.correction.specs.Calls.{withdrawing}
-use Rattle.table.specs.Slips.{numbers_of}
+use Rattle.table.specs.Slips.{numbers}
 use Rattle.table.proofs.Corrected.{as_many_opened, room-called, called, by_place, by-none}
 use Rattle.table.proofs.table.Table.withdraw.Goals as goal
 
 pub returns-in_err-i : goal.returns-in_err-i
 returns-in_err-i c =
     let r = err_from_is_err_and c.from_residual.result c.from_residual.ensures.1 in
-    λ C. by-none withdrawing C c.args.self.now (numbers_of c.args.slip.now) (λ s k. refl) c.in_err-i.field-0.0 c.in_err-i.ensures c.from_residual.result (r.1 ∙ ap Err r.2)
+    λ C. by-none withdrawing C c.args.self.now (numbers c.args.slip) (λ s k. refl) c.in_err-i.field-0.0 c.in_err-i.ensures c.from_residual.result (r.1 ∙ ap Err r.2)
 
 pub invariant_of-self : goal.invariant_of-self
 invariant_of-self c =
@@ -27,5 +27,5 @@ returns c =
     let t = c.args.self.now in
     let p = c.in_ok-i.ensures in
     λ C.
-    by_place withdrawing C t (numbers_of c.args.slip.now) _ c.withdraw.result c.in_ok-i.i p
+    by_place withdrawing C t (numbers c.args.slip) _ c.withdraw.result c.in_ok-i.i p
     (called t c.deref_mut.result.now c.in_ok-i.i c.index-deref_mut-i.result c.deref_mut.ensures.value p.0 withdrawing C c.withdraw.new.self c.withdraw.result (c.withdraw.ensures C))
