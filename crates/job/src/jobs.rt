@@ -1,4 +1,4 @@
-ghost use Rattle.std.specs.Prelude.{◌≡◌, ◌≤◌, [], ◌∷◌, length, take, Some, None};
+ghost use Rattle.std.specs.Prelude.{◌≡◌, [], ◌∷◌, Some, None};
 ghost use Rattle.std.specs.Result as results;
 ghost use Rattle.model.specs.Intake.{admission_fault, new_job};
 ghost use Rattle.model.specs.Rules.{in_stage, unmark};
@@ -7,22 +7,13 @@ ghost use Rattle.model.specs.declared.Step.TheVariants as step;
 ghost use Rattle.job.specs.Jobs.{job_of};
 ghost use Rattle.job.specs.Moves.{Moves, WriteOf};
 
-use crate::admission::{MOST_STEPS, REGISTERS, admission_fault};
+use crate::admission::{REGISTERS, admission_fault};
 use crate::job::Job;
 use crate::moves::Move;
+use arrayvec::ArrayVec;
 use cell_log::{Logs, Lookups};
 use model::{Entry, Fault, Stage, Step};
 use store::Store;
-
-// The steps in an array that has room for every program.
-fn program_of(steps: &[Step]) -> [Step; MOST_STEPS]
-    requires { length steps.now ≤ 24 }
-    ensures { take (length steps.now) result ≡ steps.now }
-{
-    let mut program = [Step::End; MOST_STEPS];
-    program[0..steps.len()].copy_from_slice(steps);
-    program
-}
 
 impl Job {
     // The steps as a job that has not started, if they are admitted after so many jobs, over so many cells.
@@ -33,8 +24,7 @@ impl Job {
             return Err(fault);
         }
         Ok(Job {
-            program: program_of(steps),
-            steps: steps.len(),
+            program: ArrayVec::try_from(steps).unwrap(),
             stage: Stage::Start,
             registers: [0; REGISTERS],
             logs: Logs::empty(),
@@ -126,9 +116,10 @@ impl Default for Job {
     ghost is_default = { λ b. job_of b ≡ new_job (step.End ∷ []) };
 
     fn default() -> Job {
+        let mut program = ArrayVec::new();
+        program.push(Step::End);
         Job {
-            program: [Step::End; MOST_STEPS],
-            steps: 1,
+            program,
             stage: Stage::Start,
             registers: [0; REGISTERS],
             logs: Logs::empty(),
