@@ -1,4 +1,4 @@
-ghost use Rattle.std.specs.Prelude.{◌≡◌, [], ◌∷◌, Some, None};
+ghost use Rattle.std.specs.Prelude.{◌≡◌, true, [], ◌∷◌, Some, None};
 ghost use Rattle.std.specs.Result as results;
 ghost use Rattle.model.specs.Intake.{admission_fault, new_job};
 ghost use Rattle.model.specs.Rules.{in_stage, unmark};
@@ -6,8 +6,9 @@ ghost use Rattle.model.specs.declared.Stage.TheVariants.{Done};
 ghost use Rattle.model.specs.declared.Step.TheVariants as step;
 ghost use Rattle.job.specs.Jobs.{job_of};
 ghost use Rattle.job.specs.Moves.{Moves, WriteOf};
+ghost use Rattle.job.specs.Shape.{runnable};
 
-use crate::admission::{REGISTERS, admission_fault};
+use crate::admission::{MOST_STEPS, REGISTERS, admission_fault};
 use crate::job::Job;
 use crate::moves::Move;
 use arrayvec::ArrayVec;
@@ -23,14 +24,22 @@ impl Job {
         if let Some(fault) = admission_fault(jobs, count, steps) {
             return Err(fault);
         }
-        Ok(Job {
-            program: ArrayVec::try_from(steps).unwrap(),
+        Ok(Job::unstarted(ArrayVec::try_from(steps).unwrap()))
+    }
+
+    // A job with that program, which has not started.
+    fn unstarted(program: ArrayVec<Step, MOST_STEPS>) -> Job
+        requires { runnable program.items ≡ true }
+        ensures { job_of result ≡ new_job program.items }
+    {
+        Job {
+            program,
             stage: Stage::Start,
             registers: [0; REGISTERS],
             logs: Logs::empty(),
             marked: false,
             starts: 0,
-        })
+        }
     }
 
     // A job that only ends. It fills the places of a run's table that no job was admitted to.
@@ -118,13 +127,6 @@ impl Default for Job {
     fn default() -> Job {
         let mut program = ArrayVec::new();
         program.push(Step::End);
-        Job {
-            program,
-            stage: Stage::Start,
-            registers: [0; REGISTERS],
-            logs: Logs::empty(),
-            marked: false,
-            starts: 0,
-        }
+        Job::unstarted(program)
     }
 }

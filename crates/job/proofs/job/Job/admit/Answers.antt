@@ -3,8 +3,8 @@ use Rattle.job.specs.Shape.{runnable}
 use Rattle.job.proofs.Testing.{runs}
 use Rattle.job.proofs.job.Job.admit.Goals as goal
 
-pub invariant_of-result-clause-runnable : goal.invariant_of-result-clause-runnable
-invariant_of-result-clause-runnable c =
+pub unstarted-requires : goal.unstarted-requires
+unstarted-requires c =
     let steps = c.args.steps.now in
     let fits : c.args.count ≤ 2 ^ 64 = omega arith in
     let same : c.unwrap.result.items ≡ steps = search rules in
