@@ -1,7 +1,7 @@
-ghost use Rattle.std.specs.Prelude.{◌≡◌, ◌<◌, ◌||◌, [], length, is_ok, is_some, nat_lt, IsOk, IfOk, IfErr, OnOk};
+ghost use Rattle.std.specs.Prelude.{◌≡◌, ◌<◌, ◌||◌, true, [], length, is_ok, is_some, nat_lt, IsOk, IfOk, IfErr, OnOk};
 ghost use Rattle.model.specs.Logs.{find, put, remove};
 ghost use Rattle.cell_log.specs.Both.{FoundIn, FullFor};
-ghost use Rattle.cell_log.specs.Rows.{entries_of};
+ghost use Rattle.cell_log.specs.Rows.{entries_of, sound};
 
 use crate::both::{Found, Logs, Reading};
 use crate::log::Log;
@@ -10,6 +10,14 @@ use crate::row::LogRow;
 use crate::scans::number_at;
 use model::Refusal;
 use store::Store;
+
+// The log in a row, to be changed. The rows of `Logs` always pass the check.
+fn log_in(row: LogRow) -> Log
+    requires { sound row ≡ true }
+    ensures { result.row ≡ row }
+{
+    Log::try_from(row).unwrap()
+}
 
 impl Logs {
     pub fn empty() -> Logs
@@ -20,19 +28,6 @@ impl Logs {
             reads: LogRow::empty(),
             writes: LogRow::empty(),
         }
-    }
-
-    // A log to be changed. The rows always pass the check.
-    fn read_log(&self) -> Log
-        ensures { result.row ≡ self.now.reads }
-    {
-        Log::try_from(self.reads).unwrap()
-    }
-
-    fn write_log(&self) -> Log
-        ensures { result.row ≡ self.now.writes }
-    {
-        Log::try_from(self.writes).unwrap()
     }
 
     // Reads a cell: what was written first, then what was read before, and else the store, which is logged.
@@ -50,7 +45,9 @@ impl Logs {
             return Ok(Reading { number, found });
         }
         let number = number_at(store, cell);
-        let reads = self.read_log().put(cell, number).ok_or(Refusal::LogFull)?;
+        let reads = log_in(self.reads)
+            .put(cell, number)
+            .ok_or(Refusal::LogFull)?;
         self.reads = LogRow::from(reads);
         let found = Found::InStore;
         Ok(Reading { number, found })
@@ -62,7 +59,9 @@ impl Logs {
         ensures ok { OnOk result ((entries_of self.new.writes ≡ put (entries_of self.old.writes) cell number) × (self.new.reads ≡ self.old.reads)) }
         ensures err { IfErr result (λ e. (e ≡ Refusal.LogFull) × (self.new ≡ self.old)) }
     {
-        let writes = self.write_log().put(cell, number).ok_or(Refusal::LogFull)?;
+        let writes = log_in(self.writes)
+            .put(cell, number)
+            .ok_or(Refusal::LogFull)?;
         self.writes = LogRow::from(writes);
         Ok(())
     }
@@ -72,7 +71,7 @@ impl Logs {
         ensures reads { entries_of self.new.reads ≡ remove (entries_of self.old.reads) cell }
         ensures writes { self.new.writes ≡ self.old.writes }
     {
-        self.reads = LogRow::from(self.read_log().remove(cell));
+        self.reads = LogRow::from(log_in(self.reads).remove(cell));
     }
 
     // Takes the entry of a cell out of the write log.
@@ -80,6 +79,6 @@ impl Logs {
         ensures writes { entries_of self.new.writes ≡ remove (entries_of self.old.writes) cell }
         ensures reads { self.new.reads ≡ self.old.reads }
     {
-        self.writes = LogRow::from(self.write_log().remove(cell));
+        self.writes = LogRow::from(log_in(self.writes).remove(cell));
     }
 }

@@ -1,7 +1,6 @@
 -- What a job's type says of the step at which it stands.
-use Rattle.std.proofs.Common.{◌≡◌, ℕ, suc, ◌+◌, ◌^◌, ◌<◌, ◌≤◌, true, false, not, ◌&&◌, ltb, leb, List, length, get_or, take, is_some, IfOk, OnOk, Ok, Result, Some, None, Option, sym, refl, ap, ◌∙◌, subst, arith}
+use Rattle.std.proofs.Common.{◌≡◌, ℕ, suc, ◌+◌, ◌^◌, ◌<◌, ◌≤◌, true, false, not, ◌&&◌, ltb, leb, List, length, get_or, is_some, IfOk, OnOk, Ok, Result, Some, None, Option, sym, refl, ap, ◌∙◌, subst, arith}
 use Rattle.std.specs.List.{slice_get}
-use Rattle.std.proofs.lemmas.List.{get_or-take, length-take}
 use Rattle.std.proofs.lemmas.Option.{slice_get-get_or}
 use Rattle.std.proofs.lemmas.Bool.{and_parts, and_from, ltb-true, ltb-false, leb-true, lt-ltb, le-leb}
 use Rattle.model.specs.Logs.{put}
@@ -103,9 +102,9 @@ module _ (b : JobState) (ok : runnable b.program ≡ true) (pl : placed b.stage 
           let c = (neither (fault_if (bad_count b.program) (fault StepCount 0 0)) _ a).1 in
           (neither (steps_fault (2 ^ 64) (length b.program) 1 b.program) _ c).0
 
--- What the program's array has at a place is the step there.
-pub step_in : (steps : List Step) (k n : ℕ) (d : Step) → n < length (take k steps) → get_or steps n d ≡ step_or (slice_get (take k steps) n)
-step_in steps k n d h = sym (ap step_or (slice_get-get_or (take k steps) n d h) ∙ get_or-take k steps n d (omega (arith, length-take k steps)))
+-- What a program's slice has at a place is the step there.
+pub step_in : (xs steps : List Step) (n : ℕ) (d : Step) → xs ≡ steps → n < length steps → get_or xs n d ≡ step_or (slice_get steps n)
+step_in xs steps n d e h = ap (λ z. get_or z n d) e ∙ sym (ap step_or (slice_get-get_or steps n d h))
 
 pub placed_at : (n : ℕ) (program : List Step) (reads writes : Entries) → n < length program → length reads ≤ n → length writes ≤ n → placed (At n) program reads writes ≡ true
 placed_at n program reads writes h r w =

@@ -10,7 +10,7 @@ use Rattle.model.specs.declared.Refusal.TheVariants.{TooManyJobs, StepCount, NoS
 use Rattle.model.specs.declared.Step.{Step}
 use Rattle.model.specs.declared.Step.TheVariants.{Read, Write, Load, Add, Subtract, JumpIfLess, Wait, End}
 use Rattle.model.proofs.Basics.{zero_one}
-use Rattle.model.proofs.Admission.{neither, not_bad, suffices}
+use Rattle.model.proofs.Admission.{neither, not_bad}
 use Rattle.job.specs.Shape.{runnable}
 
 -- Past the first of two steps, the last one stays.
@@ -75,6 +75,3 @@ runs jobs count steps h e =
     ap (λ o. option_or o (option_or (steps_fault (2 ^ 64) (length steps) 1 steps) (fault_if (not (last_stops steps)) (fault LastStep (length steps) 0)))) b.0
     ∙ (ap (λ o. option_or o (fault_if (not (last_stops steps)) (fault LastStep (length steps) 0))) (steps_fine count (2 ^ 64) (length steps) 1 steps h c.0) ∙ c.1) in
     ap (λ o. not (is_some o)) d
-
-pub few-steps : (jobs count : ℕ) (steps : List Step) → admission_fault jobs count steps ≡ None → length steps ≤ 24
-few-steps jobs count steps e = (suffices jobs count steps e).few_steps

@@ -1,5 +1,4 @@
 -- What a job in the table means. Assumes nothing.
-use Rattle.std.specs.Prelude.{take}
 use Rattle.cell_log.specs.Rows.{entries_of}
 use Rattle.model.specs.Rules.{JobState}
 use Rattle.job.specs.declared.job.Job.{Job}
@@ -7,7 +6,7 @@ use Rattle.job.specs.declared.job.Job.{Job}
 abbrev pub job_of : Job → JobState
 job_of b =
     record {
-      program = take b.steps b.program;
+      program = b.program.items;
       stage = b.stage;
       registers = b.registers;
       reads = entries_of b.logs.reads;

@@ -1,4 +1,4 @@
-ghost use Rattle.std.specs.Prelude.{◌≡◌, ◌≤◌, [], ◌∷◌, length, take, Some, None};
+ghost use Rattle.std.specs.Prelude.{◌≡◌, true, [], ◌∷◌, Some, None};
 ghost use Rattle.std.specs.Result as results;
 ghost use Rattle.model.specs.Intake.{admission_fault, new_job};
 ghost use Rattle.model.specs.Rules.{in_stage, unmark};
@@ -6,23 +6,15 @@ ghost use Rattle.model.specs.declared.Stage.TheVariants.{Done};
 ghost use Rattle.model.specs.declared.Step.TheVariants as step;
 ghost use Rattle.job.specs.Jobs.{job_of};
 ghost use Rattle.job.specs.Moves.{Moves, WriteOf};
+ghost use Rattle.job.specs.Shape.{runnable};
 
 use crate::admission::{MOST_STEPS, REGISTERS, admission_fault};
 use crate::job::Job;
 use crate::moves::Move;
+use arrayvec::ArrayVec;
 use cell_log::{Logs, Lookups};
 use model::{Entry, Fault, Stage, Step};
 use store::Store;
-
-// The steps in an array that has room for every program.
-fn program_of(steps: &[Step]) -> [Step; MOST_STEPS]
-    requires { length steps.now ≤ 24 }
-    ensures { take (length steps.now) result ≡ steps.now }
-{
-    let mut program = [Step::End; MOST_STEPS];
-    program[0..steps.len()].copy_from_slice(steps);
-    program
-}
 
 impl Job {
     // The steps as a job that has not started, if they are admitted after so many jobs, over so many cells.
@@ -32,15 +24,22 @@ impl Job {
         if let Some(fault) = admission_fault(jobs, count, steps) {
             return Err(fault);
         }
-        Ok(Job {
-            program: program_of(steps),
-            steps: steps.len(),
+        Ok(Job::unstarted(ArrayVec::try_from(steps).unwrap()))
+    }
+
+    // A job with that program, which has not started.
+    fn unstarted(program: ArrayVec<Step, MOST_STEPS>) -> Job
+        requires { runnable program.items ≡ true }
+        ensures { job_of result ≡ new_job program.items }
+    {
+        Job {
+            program,
             stage: Stage::Start,
             registers: [0; REGISTERS],
             logs: Logs::empty(),
             marked: false,
             starts: 0,
-        })
+        }
     }
 
     // A job that only ends. It fills the places of a run's table that no job was admitted to.
@@ -126,14 +125,8 @@ impl Default for Job {
     ghost is_default = { λ b. job_of b ≡ new_job (step.End ∷ []) };
 
     fn default() -> Job {
-        Job {
-            program: [Step::End; MOST_STEPS],
-            steps: 1,
-            stage: Stage::Start,
-            registers: [0; REGISTERS],
-            logs: Logs::empty(),
-            marked: false,
-            starts: 0,
-        }
+        let mut program = ArrayVec::new();
+        program.push(Step::End);
+        Job::unstarted(program)
     }
 }

@@ -14,7 +14,8 @@ use cell_log::{Found, Lookups};
 use model::{Applied, Rule, Stage, Step};
 use store::Store;
 
-// The answer of a rule that names no cell, and of one that does.
+// The answer of a rule that names no cell, and of one that does. Two, since a rule always names one or never does, and
+// an Option at each call would say no more.
 fn applies(rule: Rule) -> Move
     ensures { result ≡ Move.Applies (record { rule = rule; cell = None }) }
 {

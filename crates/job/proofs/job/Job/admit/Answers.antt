@@ -1,29 +1,11 @@
-use Rattle.std.proofs.Common.{◌^◌, ◌≤◌, false, replicate, sym, refl, ap, ◌∙◌, arith}
-use Rattle.model.specs.declared.Stage.TheVariants.{Start}
+use Rattle.std.proofs.Common.{◌≡◌, ◌^◌, ◌≤◌, sym, ap, ◌∙◌, arith, rules}
 use Rattle.job.specs.Shape.{runnable}
-use Rattle.job.proofs.Testing.{runs, few-steps}
+use Rattle.job.proofs.Testing.{runs}
 use Rattle.job.proofs.job.Job.admit.Goals as goal
 
-pub program_of-requires : goal.program_of-requires
-program_of-requires c = few-steps c.args.jobs c.args.count c.args.steps.now (sym c.in_default.ensures)
-
-pub invariant_of-result : goal.invariant_of-result
-invariant_of-result c =
+pub unstarted-requires : goal.unstarted-requires
+unstarted-requires c =
     let steps = c.args.steps.now in
-    let fine = sym c.in_default.ensures in
     let fits : c.args.count ≤ 2 ^ 64 = omega arith in
-    record { short = few-steps c.args.jobs c.args.count steps fine; runnable = ap runnable c.program_of.ensures ∙ runs c.args.jobs c.args.count steps fits fine; placed = refl }
-
-pub returns : goal.returns
-returns c = (
-  sym c.in_default.ensures,
-  λ i. record {
-    program = c.program_of.ensures i;
-    stage = Start;
-    registers = replicate 8 0;
-    reads = c.empty.ensures.reads i;
-    writes = c.empty.ensures.writes i;
-    marked = false;
-    starts = 0;
-  },
-)
+    let same : c.unwrap.result.items ≡ steps = search rules in
+    ap runnable same ∙ runs c.args.jobs c.args.count steps fits (sym c.in_default.ensures)

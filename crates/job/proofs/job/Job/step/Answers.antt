@@ -1,4 +1,4 @@
-use Rattle.std.proofs.Common.{◌≡◌, ℕ, take, sym, refl, ap, ◌∙◌}
+use Rattle.std.proofs.Common.{◌≡◌, ℕ, sym, refl, ap, ◌∙◌}
 use Rattle.std.specs.List.{slice_get}
 use Rattle.model.specs.Rules.{place_of, step_or, step_of}
 use Rattle.model.specs.declared.Stage.{Stage}
@@ -11,8 +11,8 @@ pub returns-in-At : goal.returns-in-At
 returns-in-At c =
     let b = c.args.self.now in
     let n = c.in-At.n in
-    step_in b.program b.steps n _ (at_place (job_of b) b.runnable b.placed n (step_of (job_of b)) c.in-At.is refl).within
-    ∙ sym (ap (λ st. step_or (slice_get (take b.steps b.program) (place_of st))) c.in-At.is)
+    step_in c.deref.result.now b.program.items n _ c.deref.ensures.0 (at_place (job_of b) b.runnable b.placed n (step_of (job_of b)) c.in-At.is refl).within
+    ∙ sym (ap (λ st. step_or (slice_get b.program.items (place_of st))) c.in-At.is)
 
 -- At no step, the first one is taken.
 at_none : (st : Stage) → ((n : ℕ) → st ≡ At n → ⊥) → place_of st ≡ 0
@@ -26,5 +26,5 @@ at_none Done h = refl
 pub returns-in_default : goal.returns-in_default
 returns-in_default c =
     let b = c.args.self.now in
-    step_in b.program b.steps 0 _ (has_first (job_of b) b.runnable b.placed)
-    ∙ sym (ap (λ n. step_or (slice_get (take b.steps b.program) n)) (at_none b.stage c.in_default.not-At))
+    step_in c.deref-in_default.result.now b.program.items 0 _ c.deref-in_default.ensures.0 (has_first (job_of b) b.runnable b.placed)
+    ∙ sym (ap (λ n. step_or (slice_get b.program.items n)) (at_none b.stage c.in_default.not-At))
