@@ -9,7 +9,7 @@ use write_back::WriteBack;
 const CELLS: usize = 70;
 
 // The first cell that they have not.
-const BEYOND: u32 = 70;
+const BEYOND: u32 = CELLS as u32;
 
 #[test]
 fn sets_below(rt: HostRuntime) {

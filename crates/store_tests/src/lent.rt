@@ -9,7 +9,8 @@ use store::change::Change;
 use store::word_table::WordTable;
 use write_back::WriteBack;
 
-// What lent memory holds once a layered store over it is let go follows from the contracts alone.
+// What lent memory holds once a layered store over it is let go follows from the contracts alone. There is a function
+// for each store, since what its memory holds is told in words of its own; what they share is `set_through_layers`.
 
 // Sets a cell through two layers, and takes them apart.
 fn set_through_layers<S: Store>(below: S, cell: u32, number: u32) -> S
