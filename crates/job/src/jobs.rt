@@ -42,13 +42,6 @@ impl Job {
         }
     }
 
-    // A job that only ends. It fills the places of a run's table that no job was admitted to.
-    pub fn blank() -> Job
-        ensures { job_of result ≡ new_job (step.End ∷ []) }
-    {
-        Job::default()
-    }
-
     // Applies the first rule of the job's stage that fits, as far as it changes the job.
     pub fn turn<S: Store>(&mut self, store: &S, right: Option<u32>) -> Move
         ensures { Moves (S.Store.cells store.now) right (job_of self.old) (job_of self.new) result }
@@ -120,7 +113,7 @@ impl Job {
     }
 }
 
-// A job that only ends.
+// A job that only ends. It fills the places of a run's table that no job was admitted to.
 impl Default for Job {
     ghost is_default = { λ b. job_of b ≡ new_job (step.End ∷ []) };
 
