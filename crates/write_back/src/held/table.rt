@@ -18,8 +18,7 @@ impl Held {
 
     // What is held, the change held longest first.
     pub(crate) fn changes(&self) -> &[Change]
-        ensures value { result.now ≡ held_in self.now }
-        ensures few { length result.now ≤ 32 }
+        ensures { result.now ≡ held_in self.now }
     {
         self.changes.as_slice()
     }
