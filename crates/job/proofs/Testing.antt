@@ -1,11 +1,9 @@
 -- The tests of admission, step by step.
-use Rattle.std.proofs.Common.{◌≡◌, ℕ, suc, ◌+◌, ◌-◌, ◌^◌, ◌<◌, ◌≤◌, true, false, not, leb, List, [], ◌∷◌, length, get_or, drop, is_some, Some, None, Option, sym, refl, ap, ◌∙◌, arith}
-use Rattle.std.proofs.lemmas.List.{drop_more, drop_all}
+use Rattle.std.proofs.Common.{◌≡◌, ℕ, suc, ◌-◌, ◌^◌, ◌≤◌, true, not, leb, List, [], ◌∷◌, length, is_some, Some, None, Option, ap, ◌∙◌, arith}
 use Rattle.std.specs.List.{slice_get}
 use Rattle.std.specs.Option.{option_or}
 use Rattle.std.proofs.lemmas.Bool.{leb-false, lt-leb}
 use Rattle.model.specs.Intake.{fault, fault_if, bad_register, bad_cell, bad_count, step_fault, steps_fault, stops, last_stops, admission_fault}
-use Rattle.model.specs.declared.Fault.{Fault}
 use Rattle.model.specs.declared.Refusal.TheVariants.{TooManyJobs, StepCount, NoSuchCell, LastStep}
 use Rattle.model.specs.declared.Step.{Step}
 use Rattle.model.specs.declared.Step.TheVariants.{Read, Write, Load, Add, Subtract, JumpIfLess, Wait, End}
@@ -17,29 +15,10 @@ use Rattle.job.specs.Shape.{runnable}
 last_of : (x y : Step) (steps : List Step) → slice_get (x ∷ y ∷ steps) (length (x ∷ y ∷ steps) - 1) ≡ slice_get (y ∷ steps) (length (y ∷ steps) - 1)
 last_of x y steps = let e : length (x ∷ y ∷ steps) - 1 ≡ suc (length (y ∷ steps) - 1) = omega arith in ap (slice_get (x ∷ y ∷ steps)) e
 
-pub last_none : (steps : List Step) → None ≡ slice_get steps (length steps - 1) → false ≡ last_stops steps
-last_none [] e = refl
-last_none (x ∷ []) e = zero_one (cc)
-last_none (x ∷ y ∷ steps) e = last_none (y ∷ steps) (e ∙ last_of x y steps)
-
 pub last_some : (steps : List Step) (last : Step) → Some last ≡ slice_get steps (length steps - 1) → stops last ≡ last_stops steps
 last_some [] last e = zero_one (cc)
 last_some (x ∷ []) last e = let q : last ≡ x = cc in ap stops q
 last_some (x ∷ y ∷ steps) last e = last_some (y ∷ steps) last (e ∙ last_of x y steps)
-
--- At step i: the first fault is this step's, or one of a later step.
-pub fault_here : (count n m : ℕ) (steps : List Step) (i : ℕ) (d : Step) (f : Option Fault) → i < length steps → f ≡ step_fault count n m (get_or steps i d) → is_some f ≡ true → f ≡ steps_fault count n m (drop i steps)
-fault_here count n m steps i d None h e s = zero_one (cc)
-fault_here count n m steps i d (Some x) h e s = sym (ap (steps_fault count n m) (drop_more steps i d h) ∙ ap (λ (o : Option Fault). option_or o (steps_fault count n (suc m) (drop (i + 1) steps))) (sym e))
-
-pub fault_later : (count n m : ℕ) (steps : List Step) (i : ℕ) (d : Step) (f : Option Fault) → i < length steps → f ≡ step_fault count n m (get_or steps i d) → is_some f ≡ false → steps_fault count n (m + 1) (drop (i + 1) steps) ≡ steps_fault count n m (drop i steps)
-fault_later count n m steps i d None h e s =
-    let k : m + 1 ≡ suc m = omega arith in
-    ap (λ (x : ℕ). steps_fault count n x (drop (i + 1) steps)) k ∙ sym (ap (steps_fault count n m) (drop_more steps i d h) ∙ ap (λ (o : Option Fault). option_or o (steps_fault count n (suc m) (drop (i + 1) steps))) (sym e))
-fault_later count n m steps i d (Some x) h e s = zero_one (cc)
-
-pub fault_none : (count n m : ℕ) (steps : List Step) (i : ℕ) → length steps ≤ i → None ≡ steps_fault count n m (drop i steps)
-fault_none count n m steps i h = sym (ap (steps_fault count n m) (drop_all i steps h))
 
 -- What passes over so many cells passes over more.
 cell_fine : (count more n field cell : ℕ) → count ≤ more → bad_cell count n field cell ≡ None → bad_cell more n field cell ≡ None

@@ -1,9 +1,6 @@
 use Rattle.std.proofs.Common.{◌∙◌}
-use Rattle.job.proofs.Testing.{last_none, last_some}
+use Rattle.job.proofs.Testing.{last_some}
 use Rattle.job.proofs.admission.last_stops.Goals as goal
 
 pub returns-in-Some : goal.returns-in-Some
 returns-in-Some c = c.stops.ensures ∙ last_some c.args.steps.now c.in-Some.step.now c.in-Some.ensures.value
-
-pub returns-in-None : goal.returns-in-None
-returns-in-None c = last_none c.args.steps.now c.in-None.ensures.value
