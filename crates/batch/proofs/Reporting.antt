@@ -2,7 +2,7 @@
 use Rattle.std.proofs.Common.{◌≡◌, ℕ, zero, suc, ◌+◌, ◌-◌, ◌<◌, ◌≤◌, Bool, true, false, cond, ◌||◌, ltb, List, [], ◌∷◌, ◌++◌, length, drop, None, Ok, Err, Option, sym, refl, ap, ◌∙◌, append_assoc, add-one, arith}
 use Rattle.std.proofs.lemmas.Bool.{ltb-true, ltb-false}
 use Rattle.std.proofs.lemmas.Option.{slice_get-get_or, slice_get_past}
-use Rattle.std.specs.List.{slice_get}
+use Rattle.std.specs.List.{slice_get, list_any, range_with_len}
 use Rattle.std.proofs.lemmas.List.{append-nil, at_drop_all}
 use Rattle.model.specs.Intake.{cell_answer}
 use Rattle.model.specs.Logs.{at, cell_of}
@@ -52,7 +52,7 @@ module _ {X : Type 0} (line : ℕ → Option X → List ℕ) (blank : (n : ℕ) 
     pub all_places : (written : List ℕ) → length xs < n → Lines written before (numbered line n (drop (n - 1) xs)) (numbered line 1 xs) → written ≡ before ++ numbered line 1 xs
     all_places written l h = all_written written before (numbered line n (drop (n - 1) xs)) (numbered line 1 xs) (numbered_over xs (n - 1) n (omega arith)) h
 
--- Who has committed: the party at place n, counted from 1, or one of the others.
+-- Who has committed: some party of the order from place k on, counted from 0.
 committed-drop : (order : List Party) (k j : ℕ) → has_committed (drop k order) j ≡ (is_job j (slice_get order k) || has_committed (drop (suc k) order) j)
 committed-drop [] zero j = refl
 committed-drop [] (suc k) j = refl
@@ -60,22 +60,14 @@ committed-drop (p ∷ order) zero j = refl
 committed-drop (p ∷ order) (suc k) j = committed-drop order k j
 
 module _ (order : List Party) (j : ℕ) where
-  committed_next : (n : ℕ) → 1 ≤ n → has_committed (drop (n - 1) order) j ≡ (is_job j (at order n) || has_committed (drop (n + 1 - 1) order) j)
-  committed_next zero h = absurd (omega arith)
-  committed_next (suc k) h =
-      let a : suc k - 1 ≡ k = omega arith in
-      let b : suc k + 1 - 1 ≡ suc k = omega arith in
-      rw (a, b) (committed-drop order k j)
+  some-place : (n k : ℕ) → length order ≡ k + n → list_any (λ place. is_job j (at order place)) (range_with_len (suc k) n) ≡ has_committed (drop k order) j
+  some-place zero k l = sym (at_drop_all (λ ps. has_committed ps j) order k (omega arith))
+  some-place (suc n) k l =
+      let e : length order ≡ suc k + n = omega arith in
+      rw (add-one, some-place n (suc k) e) (sym (committed-drop order k j))
 
-  module _ (n : ℕ) (from : 1 ≤ n) (here : Bool) (told : here ≡ is_job j (at order n)) where
-    pub committed_here : here ≡ true → has_committed (drop (n - 1) order) j ≡ has_committed order j → true ≡ has_committed order j
-    committed_here t e = sym (ap (λ b. b || has_committed (drop (n + 1 - 1) order) j) (sym told ∙ t)) ∙ (sym (committed_next n from) ∙ e)
-
-    pub committed_later : here ≡ false → has_committed (drop (n - 1) order) j ≡ has_committed order j → has_committed (drop (n + 1 - 1) order) j ≡ has_committed order j
-    committed_later t e = sym (ap (λ b. b || has_committed (drop (n + 1 - 1) order) j) (sym told ∙ t)) ∙ (sym (committed_next n from) ∙ e)
-
-  pub committed_over : (n : ℕ) → length order < n → has_committed (drop (n - 1) order) j ≡ has_committed order j → false ≡ has_committed order j
-  committed_over n l e = sym (at_drop_all (λ ps. has_committed ps j) order (n - 1) (omega arith)) ∙ e
+  pub at_some_place : list_any (λ place. is_job j (at order place)) (range_with_len 1 (length order)) ≡ has_committed order j
+  at_some_place = some-place (length order) 0 (omega arith)
 
 -- A cell's answer is its line.
 cell_line_at : (s : State) (cell : ℕ) (t : Bool) → ltb cell (length s.cells) ≡ t → answer_text cell (cell_answer s cell) ≡ cell_text cell (slice_get s.cells cell)

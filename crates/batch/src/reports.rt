@@ -2,7 +2,7 @@ ghost use Rattle.std.specs.Prelude.{◌≡◌, ◌++◌, IfOk, string_bytes, OnO
 ghost use Rattle.model.specs.Intake.{cell_answer};
 ghost use Rattle.model.specs.Logs.{at};
 ghost use Rattle.correctable_run.specs.Runs.{state};
-ghost use Rattle.batch.specs.Reports.{entry_text, order_text, is_job, has_committed, job_text, jobs_text, answer_text, cells_text, report_text};
+ghost use Rattle.batch.specs.Reports.{entry_text, order_text, has_committed, job_text, jobs_text, answer_text, cells_text, report_text};
 
 use correctable_run::run::Run;
 use model::Party;
@@ -30,23 +30,11 @@ fn write_order<S: Store>(out: &mut String, run: &Run<S>) -> Result<(), AllocErro
     Ok(())
 }
 
-// Whether a job stands at a place of the commit order.
-fn stands_at<S: Store>(run: &Run<S>, job: u32, place: u32) -> bool
-    ensures { result ≡ is_job job (at (state S.Store.cells run.now).order place) }
-{
-    run.entry(place) == Some(Party::Job(job))
-}
-
 // Whether a job stands in the commit order.
 fn has_committed<S: Store>(run: &Run<S>, job: u32) -> bool
     ensures { result ≡ has_committed (state S.Store.cells run.now).order job }
 {
-    for place in 1..=run.commits() as u32 {
-        if stands_at(run, job, place) {
-            return true;
-        }
-    }
-    false
+    (1..=run.commits() as u32).any(|place| run.entry(place) == Some(Party::Job(job)))
 }
 
 // The N line of a job.
