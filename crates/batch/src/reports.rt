@@ -10,6 +10,8 @@ use report::Line;
 use std::alloc::{AllocError, Global};
 use store::Store;
 
+// Text and run stay two parameters below: in a struct of both, each contract would have to say that the run stays.
+
 // The D line of a place.
 fn write_place<S: Store>(out: &mut String, run: &Run<S>, place: u32) -> Result<(), AllocError>
     ensures { OnOk result (string_bytes out.new ≡ string_bytes out.old ++ entry_text place (at (state S.Store.cells run.now).order place)) }

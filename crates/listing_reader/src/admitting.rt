@@ -1,4 +1,4 @@
-ghost use Rattle.std.specs.Prelude.{◌≡◌, ℕ, ◌+◌, ◌<◌, ◌≤◌, length, vec_len, MatchOption};
+ghost use Rattle.std.specs.Prelude.{◌≡◌, ◌+◌, ◌<◌, ◌≤◌, length, vec_len, MatchOption};
 ghost use Rattle.model.specs.Intake.{admission_fault};
 ghost use Rattle.script.specs.Faults.{fault_at, column_of, admit_job, admit_before};
 ghost use Rattle.script.specs.declared.Cause.TheVariants.{Admission};

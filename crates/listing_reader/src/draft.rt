@@ -13,7 +13,7 @@ pub struct Draft {
     // The line and the steps of the job that is being read.
     pub(crate) job_line: u32,
     pub(crate) steps: Vec<Step>,
-    // The line that is read next.
+    // The line that is read next, as the reader has it. The lists are bounded by it.
     pub(crate) line: u32,
     ghost step_room: { 32768 ≤ vec_capacity steps },
     ghost few_jobs: { vec_len lists.jobs ≤ 16 },

@@ -1,5 +1,5 @@
 ghost use Rattle.std.specs.Prelude.{◌≡◌, ℕ, suc, List, length};
-ghost use Rattle.script.specs.Faults.{next, read_fields};
+ghost use Rattle.script.specs.Faults.{read_fields};
 ghost use Rattle.listing_reader.specs.Drafts.{progress_of};
 ghost use Rattle.listing_reader.specs.Entries.{entered};
 ghost use Rattle.listing_reader.specs.Parts.{kind_in, Placed};

@@ -62,6 +62,7 @@ impl<'a> Reader<'a> {
     }
 
     // The bytes of the next line, without the closing byte 10, if it has one. The place moves past it.
+    // That more bytes follow is asked of each caller: no type keeps it, since at the end of a listing it fails.
     pub(crate) fn next_bytes(&mut self) -> Option<&'a [u8]>
         requires { (self.old.place.at < length self.old.bytes.now) × (self.old.place.line < 65537) }
         ensures split { Split self.old.bytes.now self.old.place self.new.place result }

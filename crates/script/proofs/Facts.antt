@@ -1,5 +1,5 @@
 -- That a script is within the bounds is a fact: it holds in at most one way.
-use Rattle.std.proofs.Common.{◌≡◌, ℕ, suc, ◌<◌, ◌≤◌, List, [], ◌∷◌, length, refl}
+use Rattle.std.proofs.Common.{ℕ, suc, ◌<◌, ◌≤◌, List, [], ◌∷◌, refl}
 use Rattle.std.proofs.Props.{props}
 use Rattle.model.specs.declared.Step.{Step}
 use Rattle.script.specs.Lines.{Item}
