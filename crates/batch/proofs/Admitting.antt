@@ -1,24 +1,13 @@
 -- A script within the bounds has all its jobs admitted.
-use Rattle.std.proofs.Common.{◌≡◌, ℕ, suc, ◌+◌, ◌<◌, ◌≤◌, List, [], ◌∷◌, ◌++◌, map, length, get_or, drop, set, replicate, sym, refl, ap, ◌∙◌, subst, append_assoc, arith}
-use Rattle.std.proofs.lemmas.List.{append-nil, at_drop_more, at_drop_all, length_push, length-set, length-replicate}
-use Rattle.listing_reader.specs.Drafts.{steps_in}
-use Rattle.listing_reader.specs.declared.program.Program.{Program}
+use Rattle.std.proofs.Common.{◌≡◌, ℕ, suc, List, [], ◌∷◌, ◌++◌, length, set, replicate, sym, refl, ap, ◌∙◌, subst, append_assoc, arith}
+use Rattle.std.proofs.lemmas.List.{append-nil, length_push, length-set, length-replicate}
 use Rattle.model.specs.Calls.{settle, after}
-use Rattle.model.specs.Intake.{Intake, admit_unless, admit, sealed}
+use Rattle.model.specs.Intake.{Intake, admit_unless, sealed}
 use Rattle.model.specs.Rules.{State}
 use Rattle.model.specs.declared.Step.{Step}
 use Rattle.script.specs.Scripts.{Script, Admitted, Within}
 use Rattle.script.specs.declared.Preset.{Preset}
 use Rattle.batch.specs.Runs.{calls_of, preset_in, admit_all, intake_for, final_state}
-
-module _ (jobs : List Program) (k : ℕ) (i : Intake) where
-  pub next-admission : (p : Program) → k < length jobs → p ≡ get_or jobs k p → admit_all i (map steps_in (drop k jobs)) ≡ admit_all (admit i (steps_in p)).0 (map steps_in (drop (k + 1) jobs))
-  next-admission p l e =
-      let split : admit_all i (map steps_in (drop k jobs)) ≡ admit_all (admit i (steps_in (get_or jobs k p))).0 (map steps_in (drop (k + 1) jobs)) = at_drop_more (λ ps. admit_all i (map steps_in ps)) jobs k p l in
-      split ∙ ap (λ (q : Program). admit_all (admit i (steps_in q)).0 (map steps_in (drop (k + 1) jobs))) (sym e)
-
-  pub no-admission : length jobs ≤ k → admit_all i (map steps_in (drop k jobs)) ≡ i
-  no-admission l = at_drop_all (λ ps. admit_all i (map steps_in ps)) jobs k l
 
 abbrev pub intake : ℕ → List ℕ → List (List Step) → Intake
 intake number cells programs = record { number = number; cells = cells; programs = programs }

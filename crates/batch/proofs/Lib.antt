@@ -1,3 +1,4 @@
 mod Playing
 mod Reporting
 mod Admitting
+mod Counting

@@ -1,5 +1,5 @@
 -- What is printed of a run and of a listing. Assumes nothing.
-use Rattle.std.specs.Prelude.{ℕ, suc, Bool, false, ◌||◌, List, [], ◌∷◌, ◌++◌, Some, None, Ok, Err, Option, Result}
+use Rattle.std.specs.Prelude.{ℕ, suc, Bool, false, ◌||◌, List, [], ◌∷◌, ◌++◌, Some, None, Ok, Err, Option, Result, String, string_bytes}
 use Rattle.model.specs.Law.{same}
 use Rattle.model.specs.Rules.{JobState, State}
 use Rattle.model.specs.declared.Refusal.{Refusal}
@@ -9,12 +9,17 @@ use Rattle.report.specs.Text.{line_text, fault_line_text}
 use Rattle.report.specs.declared.Line.{Line}
 use Rattle.report.specs.declared.Line.TheVariants.{Committed, Job, Cell}
 use Rattle.script.specs.Scripts.{Script}
-use Rattle.script.specs.Faults.{cause_number}
+use Rattle.script.specs.Faults.{fault_line}
 use Rattle.script.specs.declared.ListingFault.{ListingFault}
 use Rattle.batch.specs.Runs.{final_state}
 
 abbrev pub closed_line : Line → List ℕ
 closed_line line = line_text line ++ 10 ∷ []
+
+-- The lines of the members of a list, which are numbered from a number on.
+abbrev pub numbered : {X : Type 0} → (ℕ → Option X → List ℕ) → ℕ → List X → List ℕ
+numbered line n [] = []
+numbered line n (x ∷ xs) = line n (Some x) ++ numbered line (suc n) xs
 
 -- D lines: the jobs of the commit order, with their places, from 1. A script has no corrections.
 abbrev pub place_text : ℕ → Party → List ℕ
@@ -26,8 +31,7 @@ entry_text place None = []
 entry_text place (Some p) = place_text place p
 
 abbrev pub order_text : ℕ → List Party → List ℕ
-order_text place [] = []
-order_text place (p ∷ order) = entry_text place (Some p) ++ order_text (suc place) order
+order_text place order = numbered entry_text place order
 
 -- N lines: the jobs, from 1.
 abbrev pub is_job : ℕ → Option Party → Bool
@@ -43,8 +47,7 @@ job_text order j None = []
 job_text order j (Some b) = closed_line (Job j b.starts (has_committed order j))
 
 abbrev pub jobs_text : List Party → ℕ → List JobState → List ℕ
-jobs_text order j [] = []
-jobs_text order j (b ∷ jobs) = job_text order j (Some b) ++ jobs_text order (suc j) jobs
+jobs_text order j jobs = numbered (job_text order) j jobs
 
 -- C lines: the cells, from 0.
 abbrev pub cell_text : ℕ → Option ℕ → List ℕ
@@ -56,8 +59,7 @@ answer_text cell (Ok n) = cell_text cell (Some n)
 answer_text cell (Err refusal) = []
 
 abbrev pub cells_text : ℕ → List ℕ → List ℕ
-cells_text cell [] = []
-cells_text cell (n ∷ cells) = cell_text cell (Some n) ++ cells_text (suc cell) cells
+cells_text cell cells = numbered cell_text cell cells
 
 abbrev pub report_text : State → List ℕ
 report_text s = order_text 1 s.order ++ (jobs_text s.order 1 s.jobs ++ cells_text 0 s.cells)
@@ -65,4 +67,9 @@ report_text s = order_text 1 s.order ++ (jobs_text s.order 1 s.jobs ++ cells_tex
 -- What is printed of a listing that comes to a script or to a fault.
 abbrev pub output_text : Result Script ListingFault → List ℕ
 output_text (Ok s) = report_text (final_state s)
-output_text (Err f) = fault_line_text (record { number = cause_number f.cause; line = f.line; column = f.column }) ++ 10 ∷ []
+output_text (Err f) = fault_line_text (fault_line f) ++ 10 ∷ []
+
+-- The text of a report or of a fault's line.
+abbrev pub printed : {A : Type 0} → Result (String A) (String A) → List ℕ
+printed (Ok report) = string_bytes report
+printed (Err line) = string_bytes line

@@ -4,7 +4,7 @@ use Rattle.model.specs.Calls.{Call, Turn, settle, after}
 use Rattle.model.specs.Intake.{Intake, admit, sealed}
 use Rattle.model.specs.declared.Step.{Step}
 use Rattle.table.specs.Intakes.{intake_of}
-use Rattle.correctable_run.specs.declared.intake.Intake as code
+use Rattle.run.specs.declared.intake.Intake as code
 use Rattle.model.specs.Rules.{State}
 use Rattle.script.specs.Scripts.{Script}
 use Rattle.script.specs.declared.Allotment.{Allotment}

@@ -2,7 +2,7 @@ ghost use Rattle.std.specs.Prelude.{◌≡◌, map};
 ghost use Rattle.listing_reader.specs.Drafts.{steps_in};
 ghost use Rattle.batch.specs.Runs.{admit_all, intake_in};
 
-use correctable_run::intake::Intake;
+use run::intake::Intake;
 use listing_reader::program::Program;
 use store::Store;
 
@@ -10,7 +10,7 @@ use store::Store;
 pub(crate) fn admit_all<S: Store>(intake: &mut Intake<S>, jobs: &[Program])
     ensures { intake_in S.Store.cells intake.new ≡ admit_all (intake_in S.Store.cells intake.old) (map steps_in jobs.now) }
 {
-    for k in 0..jobs.len() {
-        let _ = intake.admit(jobs[k].steps());
+    for job in jobs {
+        let _ = intake.admit(job.steps());
     }
 }

@@ -1,145 +1,97 @@
-ghost use Rattle.std.specs.Prelude.{◌≡◌, ◌++◌, is_ok, IfOk, if◌then◌else◌, string_bytes, OnOk};
+ghost use Rattle.std.specs.Prelude.{◌≡◌, ◌++◌, IfOk, string_bytes, OnOk};
 ghost use Rattle.model.specs.Intake.{cell_answer};
 ghost use Rattle.model.specs.Logs.{at};
-ghost use Rattle.correctable_run.specs.Runs.{state};
-ghost use Rattle.batch.specs.Reports.{closed_line, entry_text, order_text, is_job, has_committed, job_text, jobs_text, answer_text, cells_text, report_text};
+ghost use Rattle.run.specs.Runs.{state};
+ghost use Rattle.batch.specs.Reports.{entry_text, order_text, has_committed, job_text, jobs_text, answer_text, cells_text, report_text};
 
-use correctable_run::run::Run;
+use run::run::Run;
 use model::Party;
 use report::Line;
 use std::alloc::{AllocError, Global};
 use store::Store;
 
-// A line with its closing byte.
-fn text_of(heap: Global, line: Line) -> Result<String, AllocError>
-    ensures { IfOk result (λ t. string_bytes t ≡ closed_line line) }
-{
-    format!(in heap; "{line}\n")
-}
-
-// Adds a line.
-fn append(heap: Global, out: &mut String, line: Line) -> Result<(), AllocError>
-    ensures { string_bytes out.new ≡ (if is_ok result then string_bytes out.old ++ closed_line line else string_bytes out.old) }
-{
-    let text = text_of(heap, line)?;
-    out.push_str(text.as_str())
-}
+// Text and run stay two parameters below: in a struct of both, each contract would have to say that the run stays.
 
 // The D line of a place.
-fn write_place<S: Store>(
-    heap: Global,
-    out: &mut String,
-    run: &Run<S>,
-    place: u32,
-) -> Result<(), AllocError>
+fn write_place<S: Store>(out: &mut String, run: &Run<S>, place: u32) -> Result<(), AllocError>
     ensures { OnOk result (string_bytes out.new ≡ string_bytes out.old ++ entry_text place (at (state S.Store.cells run.now).order place)) }
 {
     match run.entry(place) {
-        Some(Party::Job(job)) => append(heap, out, Line::Committed { place, job }),
+        Some(Party::Job(job)) => writeln!(out, "{}", Line::Committed { place, job }),
         _ => Ok(()),
     }
 }
 
 // The D lines.
-fn write_order<S: Store>(heap: Global, out: &mut String, run: &Run<S>) -> Result<(), AllocError>
+fn write_order<S: Store>(out: &mut String, run: &Run<S>) -> Result<(), AllocError>
     ensures { OnOk result (string_bytes out.new ≡ string_bytes out.old ++ order_text 1 (state S.Store.cells run.now).order) }
 {
-    for k in 0..run.commits() as u32 {
-        write_place(heap, out, run, k + 1)?;
+    for place in 1..=run.commits() as u32 {
+        write_place(out, run, place)?;
     }
     Ok(())
-}
-
-// Whether a job stands at a place of the commit order.
-fn stands_at<S: Store>(run: &Run<S>, job: u32, place: u32) -> bool
-    ensures { result ≡ is_job job (at (state S.Store.cells run.now).order place) }
-{
-    match run.entry(place) {
-        Some(Party::Job(other)) => job == other,
-        _ => false,
-    }
 }
 
 // Whether a job stands in the commit order.
 fn has_committed<S: Store>(run: &Run<S>, job: u32) -> bool
     ensures { result ≡ has_committed (state S.Store.cells run.now).order job }
 {
-    for k in 0..run.commits() as u32 {
-        if stands_at(run, job, k + 1) {
-            return true;
-        }
-    }
-    false
+    (1..=run.commits() as u32).any(|place| run.entry(place) == Some(Party::Job(job)))
 }
 
 // The N line of a job.
-fn write_job<S: Store>(
-    heap: Global,
-    out: &mut String,
-    run: &Run<S>,
-    job: u32,
-) -> Result<(), AllocError>
+fn write_job<S: Store>(out: &mut String, run: &Run<S>, job: u32) -> Result<(), AllocError>
     ensures { OnOk result (string_bytes out.new ≡ string_bytes out.old ++ job_text (state S.Store.cells run.now).order job (at (state S.Store.cells run.now).jobs job)) }
 {
     let Ok(starts) = run.starts(job) else {
         return Ok(());
     };
     let committed = has_committed(run, job);
-    append(
-        heap,
-        out,
-        Line::Job {
-            job,
-            starts,
-            committed,
-        },
-    )
+    let line = Line::Job {
+        job,
+        starts,
+        committed,
+    };
+    writeln!(out, "{line}")
 }
 
 // The N lines.
-fn write_jobs<S: Store>(heap: Global, out: &mut String, run: &Run<S>) -> Result<(), AllocError>
+fn write_jobs<S: Store>(out: &mut String, run: &Run<S>) -> Result<(), AllocError>
     ensures { OnOk result (string_bytes out.new ≡ string_bytes out.old ++ jobs_text (state S.Store.cells run.now).order 1 (state S.Store.cells run.now).jobs) }
 {
-    for k in 0..run.jobs() as u32 {
-        write_job(heap, out, run, k + 1)?;
+    for job in 1..=run.jobs() as u32 {
+        write_job(out, run, job)?;
     }
     Ok(())
 }
 
 // The C line of a cell.
-fn write_cell<S: Store>(
-    heap: Global,
-    out: &mut String,
-    run: &Run<S>,
-    cell: u32,
-) -> Result<(), AllocError>
+fn write_cell<S: Store>(out: &mut String, run: &Run<S>, cell: u32) -> Result<(), AllocError>
     ensures { OnOk result (string_bytes out.new ≡ string_bytes out.old ++ answer_text cell (cell_answer (state S.Store.cells run.now) cell)) }
 {
     match run.cell(cell) {
-        Ok(number) => append(heap, out, Line::Cell { cell, number }),
+        Ok(number) => writeln!(out, "{}", Line::Cell { cell, number }),
         Err(_) => Ok(()),
     }
 }
 
 // The C lines.
-fn write_cells<S: Store>(heap: Global, out: &mut String, run: &Run<S>) -> Result<(), AllocError>
+fn write_cells<S: Store>(out: &mut String, run: &Run<S>) -> Result<(), AllocError>
     ensures { OnOk result (string_bytes out.new ≡ string_bytes out.old ++ cells_text 0 (state S.Store.cells run.now).cells) }
 {
     for cell in 0..run.count() as u32 {
-        write_cell(heap, out, run, cell)?;
+        write_cell(out, run, cell)?;
     }
     Ok(())
 }
 
 // What is printed of a run.
-pub(crate) fn write_report<S: Store>(
-    heap: Global,
-    out: &mut String,
-    run: &Run<S>,
-) -> Result<(), AllocError>
-    ensures { OnOk result (string_bytes out.new ≡ string_bytes out.old ++ report_text (state S.Store.cells run.now)) }
+pub(crate) fn report_of<S: Store>(heap: Global, run: &Run<S>) -> Result<String, AllocError>
+    ensures { IfOk result (λ t. string_bytes t ≡ report_text (state S.Store.cells run.now)) }
 {
-    write_order(heap, out, run)?;
-    write_jobs(heap, out, run)?;
-    write_cells(heap, out, run)
+    let mut out = String::new(heap);
+    write_order(&mut out, run)?;
+    write_jobs(&mut out, run)?;
+    write_cells(&mut out, run)?;
+    Ok(out)
 }

@@ -1,9 +1,9 @@
 ghost use Rattle.std.specs.Prelude.{◌≡◌, replicate};
 ghost use Rattle.model.specs.Calls.{Turn, after};
-ghost use Rattle.correctable_run.specs.Runs.{state};
+ghost use Rattle.run.specs.Runs.{state};
 ghost use Rattle.batch.specs.Runs.{calls_of, preset_in};
 
-use correctable_run::run::Run;
+use run::run::Run;
 use script::{Allotment, Preset};
 use store::Store;
 
@@ -11,7 +11,7 @@ use store::Store;
 fn give_turns<S: Store>(run: &mut Run<S>, job: u32, turns: u32)
     ensures { state S.Store.cells run.new ≡ after (state S.Store.cells run.old) (replicate turns (Turn job)) }
 {
-    for k in 0..turns {
+    for _ in 0..turns {
         let _ = run.turn(job);
     }
 }
@@ -20,8 +20,7 @@ fn give_turns<S: Store>(run: &mut Run<S>, job: u32, turns: u32)
 pub(crate) fn play<S: Store>(run: &mut Run<S>, turns: &[Allotment])
     ensures { state S.Store.cells run.new ≡ after (state S.Store.cells run.old) (calls_of turns.now) }
 {
-    for k in 0..turns.len() {
-        let next = turns[k];
+    for next in turns {
         give_turns(run, next.job, next.turns);
     }
 }
@@ -30,8 +29,7 @@ pub(crate) fn play<S: Store>(run: &mut Run<S>, turns: &[Allotment])
 pub(crate) fn preset<S: Store>(store: &mut S, presets: &[Preset])
     ensures { S.Store.cells store.new ≡ preset_in (S.Store.cells store.old) presets.now }
 {
-    for k in 0..presets.len() {
-        let next = presets[k];
+    for next in presets {
         let _ = store.set(next.cell, next.number);
     }
 }

@@ -1,41 +1,35 @@
 -- Where lines end.
-use Rattle.std.proofs.Common.{◌≡◌, ℕ, suc, ◌+◌, ◌-◌, ◌<◌, ◌≤◌, Bool, true, false, cond, eqb, List, [], ◌∷◌, length, get_or, take, drop, Some, None, Option, sym, refl, ap, ◌∙◌, subst, arith}
+use Rattle.std.proofs.Common.{◌≡◌, ℕ, suc, ◌+◌, ◌-◌, ◌<◌, ◌≤◌, Bool, true, false, cond, eqb, List, [], ◌∷◌, length, take, drop, Some, None, Option, sym, refl, ap, ◌∙◌, subst, arith}
 use Rattle.std.specs.Option.{option_map}
-use Rattle.std.proofs.lemmas.List.{at_drop_more, at_drop_all, take_rest, length-take, length-drop, drop-drop}
-use Rattle.std.proofs.lemmas.Bool.{eq-eqb, ne_eqb}
+use Rattle.std.specs.List.{position, position_from}
+use Rattle.std.proofs.lemmas.Iterator.Adapters.{position_from-zero}
+use Rattle.std.proofs.lemmas.List.{take_rest, length-take, length-drop, drop-drop}
 use Rattle.script.specs.Faults.{Closed, Unclosed, lengthened, lines_of}
-use Rattle.script.proofs.Basics.{zero_one}
+use Rattle.script.proofs.Basics.{zero_one, by_bool}
 use Rattle.listing_reader.specs.Ends.{further, end_of}
 
 -- So many bytes further on.
-abbrev pub past : ℕ → Option ℕ → Option ℕ
+abbrev past : ℕ → Option ℕ → Option ℕ
 past n o = option_map (λ k. n + k) o
 
 past_none : (o : Option ℕ) → past 0 o ≡ o
 past_none None = refl
 past_none (Some k) = let e : 0 + k ≡ k = omega arith in ap Some e
 
-past_further : (i : ℕ) (o : Option ℕ) → past i (further o) ≡ past (i + 1) o
+past_further : (i : ℕ) (o : Option ℕ) → past (i + 1) o ≡ past i (further o)
 past_further i None = refl
-past_further i (Some k) = let e : i + suc k ≡ i + 1 + k = omega arith in ap Some e
+past_further i (Some k) = let e : i + 1 + k ≡ i + suc k = omega arith in ap Some e
 
-module _ (bytes : List ℕ) (i : ℕ) where
-  pub end-begins : past 0 (end_of (drop 0 bytes)) ≡ end_of bytes
-  end-begins = past_none (end_of bytes)
+-- The library's search comes to the same.
+search-from : (bytes : List ℕ) (i : ℕ) → position_from (λ b. eqb b 10) i bytes ≡ past i (end_of bytes)
+search-from [] i = refl
+search-from (b ∷ bytes) i =
+    by_bool (eqb b 10)
+    (λ t. let z : i ≡ i + 0 = omega arith in rw t (ap Some z))
+    (λ t. rw t (search-from bytes (i + 1) ∙ past_further i (end_of bytes)))
 
-  pub end-here : i < length bytes → get_or bytes i 0 ≡ 10 → past i (end_of (drop i bytes)) ≡ Some i
-  end-here l e =
-      let z : i + 0 ≡ i = omega arith in
-      let s : end_of (drop i bytes) ≡ cond (eqb (get_or bytes i 0) 10) (Some 0) (further (end_of (drop (i + 1) bytes))) = at_drop_more end_of bytes i 0 l in
-      ap (past i) (s ∙ ap (λ t. cond t (Some 0) (further (end_of (drop (i + 1) bytes)))) (eq-eqb (get_or bytes i 0) 10 e)) ∙ ap Some z
-
-  pub end_later : i < length bytes → (get_or bytes i 0 ≡ 10 → ⊥) → past i (end_of (drop i bytes)) ≡ past (i + 1) (end_of (drop (i + 1) bytes))
-  end_later l ne =
-      let s : end_of (drop i bytes) ≡ cond (eqb (get_or bytes i 0) 10) (Some 0) (further (end_of (drop (i + 1) bytes))) = at_drop_more end_of bytes i 0 l in
-      ap (past i) (s ∙ ap (λ t. cond t (Some 0) (further (end_of (drop (i + 1) bytes)))) (ne_eqb (get_or bytes i 0) 10 ne)) ∙ past_further i (end_of (drop (i + 1) bytes))
-
-  pub end-nowhere : length bytes ≤ i → past i (end_of (drop i bytes)) ≡ None
-  end-nowhere l = let s : end_of (drop i bytes) ≡ None = at_drop_all end_of bytes i l in ap (past i) s
+pub end-position : (bytes : List ℕ) → position (λ b. eqb b 10) bytes ≡ end_of bytes
+end-position bytes = position_from-zero (λ b. eqb b 10) bytes ∙ (search-from bytes 0 ∙ past_none (end_of bytes))
 
 -- The first line and the rest, or one line without an end.
 further_some : (o : Option ℕ) (i : ℕ) → further o ≡ Some i → (k : ℕ) × (o ≡ Some k) × (i ≡ suc k)

@@ -1,6 +1,7 @@
 -- A line whose letter is in order comes to its fields, or to a fault of its length.
-use Rattle.std.proofs.Common.{◌≡◌, ℕ, suc, ◌+◌, ◌-◌, ◌*◌, ◌<◌, ◌≤◌, true, cond, eqb, List, [], ◌∷◌, length, get_or, take, drop, Some, Ok, Err, Result, sym, refl, ap, ◌∙◌, subst, arith}
-use Rattle.std.proofs.lemmas.List.{take_rest, take-take, drop-drop, drop-take, length-drop}
+use Rattle.std.proofs.Common.{◌≡◌, ℕ, suc, ◌+◌, ◌-◌, ◌*◌, ◌<◌, ◌≤◌, true, cond, eqb, List, ◌∷◌, length, take, drop, Some, None, Ok, Err, Option, Result, sym, ap, ◌∙◌, arith}
+use Rattle.std.specs.Option.{ok_or}
+use Rattle.std.proofs.lemmas.List.{take-take, drop-drop, drop-take}
 use Rattle.std.proofs.lemmas.Bool.{eq-eqb, ne_eqb}
 use Rattle.script.specs.Lines.{kind_of, fields_of, group_of}
 use Rattle.script.specs.Faults.{fault_at, field_at, Closed, Progress, in_order, read_fields, read_kind, read_line}
@@ -8,49 +9,39 @@ use Rattle.script.specs.declared.Cause.TheVariants.{Shape, Letter}
 use Rattle.script.specs.declared.Kind.{Kind}
 use Rattle.script.specs.declared.ListingFault.{ListingFault}
 use Rattle.script.specs.declared.Section.{Section}
-use Rattle.listing_reader.specs.Parts.{kind_in, Placed}
+use Rattle.script.proofs.Basics.{zero_one}
+use Rattle.listing_reader.specs.Parts.{kind_in, Placed, Found}
 use Rattle.listing_reader.specs.Ends.{lines_from}
-use Rattle.listing_reader.specs.Heads.{Fielded, Faulty, Headed, LineRead}
+use Rattle.listing_reader.specs.Heads.{Headed, LineRead}
 use Rattle.listing_reader.specs.declared.place.Place.{Place}
 use Rattle.listing_reader.specs.declared.line.Line.{Line}
 use Rattle.listing_reader.specs.declared.line.Line.TheVariants.{Size, Cell, Job, Read, Write, Load, Add, Subtract, JumpIfLess, Wait, End, Turns}
 
-some-length : (bytes : List ℕ) → (length bytes ≡ 0 → ⊥) → 0 < length bytes
-some-length bytes ne = omega arith
+pub kind_told : (o : Option Kind) (k : Kind) → Ok k ≡ ok_or o Letter → o ≡ Some k
+kind_told None k e = zero_one (cc)
+kind_told (Some j) k e = let same : k ≡ j = cc in ap Some (sym same)
 
--- The bytes after the letter, as a part of the line.
-abbrev pub after_letter : List ℕ → List ℕ
-after_letter bytes = take (length bytes - 1) (drop 1 bytes)
+module _ (section : Section) (number b : ℕ) (fields : List ℕ) (k : Kind) (kind : kind_of b ≡ Some k) (ordered : in_order section (group_of k) ≡ true) where
+  by_length : (p : Progress) → p.section ≡ section → read_line p number (Closed (b ∷ fields)) ≡ cond (eqb (length fields) (11 * fields_of k)) (read_fields p number k fields) (Err (fault_at Shape number 1))
+  by_length p e =
+      ap (λ o. read_kind p number o fields) kind
+      ∙ ap (λ t. cond t (cond (eqb (length fields) (11 * fields_of k)) (read_fields p number k fields) (Err (fault_at Shape number 1))) (Err (fault_at Letter number 1))) (ap (λ s. in_order s (group_of k)) e ∙ ordered)
 
-module _ (section : Section) (number : ℕ) (k : Kind) where
-  by_length : (bytes : List ℕ) → (length bytes ≡ 0 → ⊥) → Some k ≡ kind_of (get_or bytes 0 0) → in_order section (group_of k) ≡ true → (p : Progress) → p.section ≡ section →
-      read_line p number (Closed bytes) ≡ cond (eqb (length (after_letter bytes)) (11 * fields_of k)) (read_fields p number k (after_letter bytes)) (Err (fault_at Shape number 1))
-  by_length [] ne h o p e = absurd (ne refl)
-  by_length (b ∷ bytes) ne h o p e =
-      ap (λ o. read_kind p number o bytes) (sym h)
-      ∙ (ap (λ t. cond t (cond (eqb (length bytes) (11 * fields_of k)) (read_fields p number k bytes) (Err (fault_at Shape number 1))) (Err (fault_at Letter number 1))) (ap (λ s. in_order s (group_of k)) e ∙ o)
-      ∙ ap (λ bs. cond (eqb (length bs) (11 * fields_of k)) (read_fields p number k bs) (Err (fault_at Shape number 1))) (sym (take_rest (b ∷ bytes) 1)))
-
-  module _ (bytes : List ℕ) (some : length bytes ≡ 0 → ⊥) (kind : Some k ≡ kind_of (get_or bytes 0 0)) (ordered : in_order section (group_of k) ≡ true) where
-    pub fielded : (line : Line) → length (after_letter bytes) ≡ 11 * fields_of k → kind_in line ≡ k → Placed (after_letter bytes) line →
-        Fielded (Closed bytes) section number line × (length bytes ≡ suc (11 * fields_of (kind_in line))) × Placed (drop 1 bytes) line
-    fielded line wide same placed = (
-      record {
-        fields = after_letter bytes;
-        reads = λ p e.
-            by_length bytes some kind ordered p e
-            ∙ (ap (λ t. cond t (read_fields p number k (after_letter bytes)) (Err (fault_at Shape number 1))) (eq-eqb (length (after_letter bytes)) (11 * fields_of k) wide)
-            ∙ ap (λ j. read_fields p number j (after_letter bytes)) (sym same));
-        placed = placed;
-      },
-      (let after = ap length (take_rest bytes 1) in let l : length bytes ≡ suc (11 * fields_of k) = omega (arith, wide, after, length-drop 1 bytes, some-length bytes some) in l ∙ ap (λ j. suc (11 * fields_of j)) (sym same)),
-      subst (λ bs. Placed bs line) (take_rest bytes 1) placed,
-    )
-
-    pub misshapen : (f : ListingFault) → (length (after_letter bytes) ≡ 11 * fields_of k → ⊥) → f ≡ fault_at Shape number 1 → Faulty (Closed bytes) section number f
-    misshapen f other e p h =
-        by_length bytes some kind ordered p h
-        ∙ (ap (λ t. cond t (read_fields p number k (after_letter bytes)) (Err (fault_at Shape number 1))) (ne_eqb (length (after_letter bytes)) (11 * fields_of k) other) ∙ ap Err (sym e))
+  pub headed : (found : Option Line) → Found k fields found → Headed (b ∷ fields) section number (ok_or found (fault_at Shape number 1))
+  headed None other = λ p e.
+      by_length p e ∙ ap (λ t. cond t (read_fields p number k fields) (Err (fault_at Shape number 1))) (ne_eqb (length fields) (11 * fields_of k) other)
+  headed (Some line) found = (
+    record {
+      fields = fields;
+      reads = λ p e.
+          by_length p e
+          ∙ (ap (λ t. cond t (read_fields p number k fields) (Err (fault_at Shape number 1))) (eq-eqb (length fields) (11 * fields_of k) found.0)
+          ∙ ap (λ j. read_fields p number j fields) (sym found.1));
+      placed = found.2;
+    },
+    ap suc (found.0 ∙ ap (λ j. 11 * fields_of j) (sym found.1)),
+    found.2,
+  )
 
 -- A field of a line is a part of the listing.
 field_of_part : (bytes : List ℕ) (a n k : ℕ) → suc (11 * k + 11) ≤ n → field_at k (drop 1 (take n (drop a bytes))) ≡ field_at k (drop (suc a) bytes)

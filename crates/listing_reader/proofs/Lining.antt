@@ -10,11 +10,11 @@ use Rattle.script.specs.declared.Cause.TheVariants.{TooLong}
 use Rattle.script.specs.Faults.{next, fault_at, RawLine, Closed, Unclosed, lengthened, lines_of, Progress, nothing_read, outcome, read_fields, read_line, is_step, step_follows, admit_before, finished, read_lines}
 use Rattle.script.specs.declared.ListingFault.{ListingFault}
 use Rattle.script.proofs.Basics.{by_bool}
-use Rattle.listing_reader.specs.Drafts.{progress_of, Roomy, Reads, is_step_letter}
+use Rattle.listing_reader.specs.Drafts.{progress_of, is_step_letter}
 use Rattle.listing_reader.specs.Ends.{lines_from}
 use Rattle.listing_reader.specs.Heads.{NextFaulty, NextLine}
 use Rattle.listing_reader.specs.Parts.{kind_in, Placed}
-use Rattle.listing_reader.specs.Taking.{LineTaken}
+use Rattle.listing_reader.specs.Taking.{Onward}
 use Rattle.listing_reader.specs.declared.draft.Draft.{Draft}
 use Rattle.listing_reader.specs.declared.line.Line.{Line}
 use Rattle.listing_reader.specs.declared.place.Place.{Place}
@@ -54,9 +54,18 @@ module _ (bytes : List ℕ) (p q : Place) (d m : Draft) (admitted : admit_before
       line_next (lines_from bytes p) h.rest h.raw (progress_of d) (progress_of m) p.line h.first admitted
       ∙ ap (λ r. next r (λ t. read_lines t (suc p.line) h.rest)) (h.faulty (progress_of m) refl)
 
-  pub taken-line : (e : Draft) (content : Line) (r : Result (Unit {0}) ListingFault) → NextLine bytes p q m.section content →
-      ((fields : List ℕ) → Placed fields content → Reads (read_fields (progress_of m) p.line (kind_in content) fields) r e) → Roomy e (suc p.line) → LineTaken bytes p q d e r
-  taken-line e content (Ok done) h reads room =
+  -- A field that is no number, or none that may stand there.
+  pub misread-line : (content : Line) (f : ListingFault) → NextLine bytes p q m.section content →
+      ((fields : List ℕ) → Placed fields content → read_fields (progress_of m) p.line (kind_in content) fields ≡ Err f) → read_lines (progress_of d) p.line (lines_from bytes p) ≡ Err f
+  misread-line content f h reads =
+      let g = h.fielded in
+      let read : read_line (progress_of m) p.line h.raw ≡ Err f = g.reads (progress_of m) refl ∙ reads g.fields g.placed in
+      line_next (lines_from bytes p) (lines_from bytes q) h.raw (progress_of d) (progress_of m) p.line h.first admitted
+      ∙ ap (λ r. next r (λ t. read_lines t (suc p.line) (lines_from bytes q))) read
+
+  pub taken-line : (e : Draft) (content : Line) → NextLine bytes p q m.section content →
+      ((fields : List ℕ) → Placed fields content → read_fields (progress_of m) p.line (kind_in content) fields ≡ Ok (progress_of e)) → e.line ≡ suc p.line → Onward bytes p q d e
+  taken-line e content h reads line =
       let f = h.fielded in
       let read : read_line (progress_of m) p.line h.raw ≡ Ok (progress_of e) = f.reads (progress_of m) refl ∙ reads f.fields f.placed in
       record {
@@ -66,30 +75,26 @@ module _ (bytes : List ℕ) (p q : Place) (d m : Draft) (admitted : admit_before
         next = h.next;
         onward = h.onward;
         within = h.within;
-        room = subst (Roomy e) (sym h.next) room;
+        line = h.next ∙ sym line;
       }
-  taken-line e content (Err g) h reads room =
-      let f = h.fielded in
-      let read : read_line (progress_of m) p.line h.raw ≡ Err g = f.reads (progress_of m) refl ∙ reads f.fields f.placed in
-      line_next (lines_from bytes p) (lines_from bytes q) h.raw (progress_of d) (progress_of m) p.line h.first admitted
-      ∙ ap (λ r. next r (λ t. read_lines t (suc p.line) (lines_from bytes q))) read
 
 -- Between two lines.
 pub record Underway (bytes : List ℕ) (d : Draft) (p : Place) : Type 0 where
   pub same : read_lines (progress_of d) p.line (lines_from bytes p) ≡ read_lines nothing_read 1 (lines_of bytes)
   pub within : p.at ≤ length bytes
   pub spaced : p.line + p.line ≤ p.at + 2
-  pub room : Roomy d p.line
-
-pub ended : (bytes : List ℕ) (d : Draft) (p : Place) (r : Result scripts.Script ListingFault) → Underway bytes d p → length bytes ≤ p.at → ((line : ℕ) → r ≡ read_lines (progress_of d) line []) → r ≡ read_lines nothing_read 1 (lines_of bytes)
-ended bytes d p r u l e =
-    let none : lines_from bytes p ≡ [] = ap lines_of (drop_all p.at bytes l) in
-    e p.line ∙ (ap (read_lines (progress_of d) p.line) (sym none) ∙ u.same)
+  pub line : p.line ≡ d.line
 
 -- The outcome of a listing that is not too long.
 pub short-outcome : (bytes : List ℕ) (r : Result scripts.Script ListingFault) → length bytes ≤ 65536 → r ≡ read_lines nothing_read 1 (lines_of bytes) → r ≡ outcome bytes
 short-outcome bytes r l e = e ∙ sym (ap (λ t. cond t (Err (fault_at TooLong 1 1)) (read_lines nothing_read 1 (lines_of bytes))) (le-ltb 65536 (length bytes) l))
 
--- What is the outcome obeys the law.
+-- The outcome once no line is left.
+pub at-end : (bytes : List ℕ) (d : Draft) (p : Place) (r : Result scripts.Script ListingFault) → length bytes ≤ 65536 → Underway bytes d p → length bytes ≤ p.at → ((line : ℕ) → r ≡ read_lines (progress_of d) line []) → r ≡ outcome bytes
+at-end bytes d p r short u l e =
+    let none : lines_from bytes p ≡ [] = ap lines_of (drop_all p.at bytes l) in
+    short-outcome bytes r short (e p.line ∙ (ap (read_lines (progress_of d) p.line) (sym none) ∙ u.same))
+
+-- The outcome obeys the law.
 pub lawful : (bytes : List ℕ) (r : Result scripts.Script ListingFault) → r ≡ outcome bytes → Exactly bytes r
 lawful bytes r e = subst (Exactly bytes) (sym e) (law bytes)

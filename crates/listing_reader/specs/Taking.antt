@@ -2,7 +2,7 @@
 use Rattle.std.specs.Prelude.{◌≡◌, ℕ, suc, ◌+◌, ◌≤◌, List, length, Ok, Err, Result}
 use Rattle.script.specs.Faults.{read_lines}
 use Rattle.script.specs.declared.ListingFault.{ListingFault}
-use Rattle.listing_reader.specs.Drafts.{progress_of, Roomy}
+use Rattle.listing_reader.specs.Drafts.{progress_of}
 use Rattle.listing_reader.specs.Ends.{lines_from}
 use Rattle.listing_reader.specs.declared.draft.Draft.{Draft}
 use Rattle.listing_reader.specs.declared.place.Place.{Place}
@@ -13,7 +13,7 @@ pub record Onward (bytes : List ℕ) (p q : Place) (d e : Draft) : Type 0 where
   pub next : q.line ≡ suc p.line
   pub onward : p.at + 2 ≤ q.at
   pub within : q.at ≤ length bytes
-  pub room : Roomy e q.line
+  pub line : q.line ≡ e.line
 
 -- Or the fault of the line is that of the listing.
 abbrev pub LineTaken : List ℕ → Place → Place → Draft → Draft → Result (Unit {0}) ListingFault → Type 0

@@ -1,5 +1,4 @@
 ghost use Rattle.std.specs.Prelude.{◌≡◌, ◌<◌, length};
-ghost use Rattle.script.specs.Faults.{fault_at};
 ghost use Rattle.listing_reader.specs.Heads.{Headed, LineRead};
 
 use crate::line::Line;
@@ -7,33 +6,18 @@ use crate::lines::line_of;
 use crate::reader::Reader;
 use script::{Cause, Kind, ListingFault, Section};
 
-// A fault of a line as a whole.
-fn at_line(cause: Cause, line: u32) -> ListingFault
-    ensures { result ≡ fault_at cause line 1 }
-{
-    ListingFault {
-        cause,
-        line,
-        column: 1,
-    }
-}
-
 // The line that these bytes are, by its letter and its length, if it may come next.
 fn line_from<'a>(bytes: &'a [u8], section: Section, number: u32) -> Result<Line<'a>, ListingFault>
     ensures { Headed bytes.now section number result }
 {
-    if bytes.len() == 0 {
-        return Err(at_line(Cause::Shape, number));
-    }
-    let Some(kind) = Kind::of(char::from(bytes[0])) else {
-        return Err(at_line(Cause::Letter, number));
+    let Some((&letter, fields)) = bytes.split_first() else {
+        return Err(ListingFault::of_line(Cause::Shape, number));
     };
-    if !section.admits(kind.group()) {
-        return Err(at_line(Cause::Letter, number));
-    }
-    match line_of(kind, &bytes[1..]) {
-        Some(line) => Ok(line),
-        None => Err(at_line(Cause::Shape, number)),
+    match Kind::try_from(char::from(letter)) {
+        Ok(kind) if section.admits(kind.group()) => {
+            line_of(kind, fields).ok_or(ListingFault::of_line(Cause::Shape, number))
+        }
+        _ => Err(ListingFault::of_line(Cause::Letter, number)),
     }
 }
 
@@ -47,7 +31,7 @@ impl<'a> Reader<'a> {
         let number = self.place.line;
         match self.next_bytes() {
             Some(bytes) => line_from(bytes, section, number),
-            None => Err(at_line(Cause::Shape, number)),
+            None => Err(ListingFault::of_line(Cause::Shape, number)),
         }
     }
 }

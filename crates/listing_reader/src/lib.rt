@@ -4,9 +4,12 @@
 mod admitting;
 mod draft;
 mod drafts;
+mod entries;
+mod entry;
 mod heads;
 mod line;
 mod lines;
+mod lists;
 mod numbers;
 mod place;
 pub mod program;

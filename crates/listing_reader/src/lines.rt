@@ -17,6 +17,7 @@ fn field<'a>(fields: &'a [u8], k: usize) -> &'a [u8]
 }
 
 // The line of that kind whose fields are these bytes, if there are as many as there should be.
+// Each field is cut at its place: patterns over chunks would test the number of fields a second time, arm by arm.
 pub(crate) fn line_of<'a>(kind: Kind, fields: &'a [u8]) -> Option<Line<'a>>
     ensures { Found kind fields.now result }
 {

@@ -11,29 +11,38 @@ use listing::field::number_in;
 use model::Step;
 use script::{Cause, ListingFault, Test};
 
-// A fault of field k of a line, counted from 0.
-fn in_field(cause: Cause, line: u32, k: u32) -> ListingFault
-    requires { k < 3 }
-    ensures { result ≡ fault_at cause line (column_of (suc k)) }
-{
-    ListingFault {
-        cause,
-        line,
-        column: 2 + 11 * k,
-    }
+// Where a field stands: its line, and how many fields stand before it there.
+#[derive(Clone, Copy)]
+pub struct FieldPlace {
+    pub(crate) line: u32,
+    pub(crate) k: u32,
+    ghost few: { k < 3 },
 }
 
-// The number in field k of a line, if it is one and passes the test.
-pub(crate) fn number(field: &[u8], test: Test, line: u32, k: u32) -> Result<u32, ListingFault>
-    requires { k < 3 }
-    ensures { result ≡ read_number test (number_of field.now) line k }
-{
-    let Some(number) = number_in(field) else {
-        return Err(in_field(Cause::NotANumber, line, k));
-    };
-    match test.cause(number) {
-        Some(cause) => Err(in_field(cause, line, k)),
-        None => Ok(number),
+impl FieldPlace {
+    fn fault(self, cause: Cause) -> ListingFault
+        ensures { result ≡ fault_at cause self.line (column_of (suc self.k)) }
+    {
+        ListingFault::of_field(cause, self.line, self.k + 1)
+    }
+
+    // The number in the field, if it is one and passes the test.
+    pub(crate) fn number(self, field: &[u8], test: Test) -> Result<u32, ListingFault>
+        ensures { result ≡ read_number test (number_of field.now) self.line self.k }
+    {
+        let Some(number) = number_in(field) else {
+            return Err(self.fault(Cause::NotANumber));
+        };
+        match test.cause(number) {
+            Some(cause) => Err(self.fault(cause)),
+            None => Ok(number),
+        }
+    }
+
+    pub(crate) fn any_number(self, field: &[u8]) -> Result<u32, ListingFault>
+        ensures { result ≡ read_number AnyNumber (number_of field.now) self.line self.k }
+    {
+        self.number(field, Test::AnyNumber)
     }
 }
 
@@ -42,40 +51,36 @@ pub(crate) fn step_in(content: Line, line: u32) -> Result<Step, ListingFault>
     requires step { group_of (kind_in content) ≡ OfStep }
     ensures { (p : Progress) (fields : List ℕ) → Placed fields content.entry → result ≡ next (read_numbers (tests_of p (kind_in content.entry)) line 0 fields) (λ ns. Ok (step_from (kind_in content.entry) ns)) }
 {
+    let first = FieldPlace { line, k: 0 };
+    let second = FieldPlace { line, k: 1 };
+    let third = FieldPlace { line, k: 2 };
     match content {
         Line::Read(register, cell) => Ok(Step::Read {
-            register: any_number(register, line, 0)?,
-            cell: any_number(cell, line, 1)?,
+            register: first.any_number(register)?,
+            cell: second.any_number(cell)?,
         }),
         Line::Write(cell, register) => Ok(Step::Write {
-            cell: any_number(cell, line, 0)?,
-            register: any_number(register, line, 1)?,
+            cell: first.any_number(cell)?,
+            register: second.any_number(register)?,
         }),
         Line::Load(register, number) => Ok(Step::Load {
-            register: any_number(register, line, 0)?,
-            number: any_number(number, line, 1)?,
+            register: first.any_number(register)?,
+            number: second.any_number(number)?,
         }),
         Line::Add(register, other) => Ok(Step::Add {
-            register: any_number(register, line, 0)?,
-            other: any_number(other, line, 1)?,
+            register: first.any_number(register)?,
+            other: second.any_number(other)?,
         }),
         Line::Subtract(register, other) => Ok(Step::Subtract {
-            register: any_number(register, line, 0)?,
-            other: any_number(other, line, 1)?,
+            register: first.any_number(register)?,
+            other: second.any_number(other)?,
         }),
         Line::JumpIfLess(register, other, step) => Ok(Step::JumpIfLess {
-            register: any_number(register, line, 0)?,
-            other: any_number(other, line, 1)?,
-            step: any_number(step, line, 2)?,
+            register: first.any_number(register)?,
+            other: second.any_number(other)?,
+            step: third.any_number(step)?,
         }),
         Line::Wait => Ok(Step::Wait),
         _ => Ok(Step::End),
     }
-}
-
-fn any_number(field: &[u8], line: u32, k: u32) -> Result<u32, ListingFault>
-    requires { k < 3 }
-    ensures { result ≡ read_number AnyNumber (number_of field.now) line k }
-{
-    number(field, Test::AnyNumber, line, k)
 }

@@ -1,12 +1,9 @@
-ghost use Rattle.std.specs.Prelude.{◌≤◌};
-
+use arrayvec::ArrayVec;
 use job::admission::MOST_STEPS;
 use model::Step;
 
 // The steps of a job.
-#[derive(Clone, Copy)]
+#[derive(Drop)]
 pub struct Program {
-    pub(crate) steps: [Step; MOST_STEPS],
-    pub(crate) len: usize,
-    ghost few: { len ≤ 24 },
+    pub(crate) steps: ArrayVec<Step, MOST_STEPS>,
 }

@@ -2,7 +2,7 @@ ghost use Rattle.std.specs.Prelude.{◌≡◌, ◌<◌, length, MatchOption};
 ghost use Rattle.listing_reader.specs.Drafts.{steps_in};
 
 use crate::program::Program;
-use job::admission::MOST_STEPS;
+use arrayvec::ArrayVec;
 use model::Step;
 
 impl Program {
@@ -10,20 +10,13 @@ impl Program {
     pub fn new(steps: &[Step]) -> Option<Program>
         ensures { MatchOption result (24 < length steps.now) (λ p. steps_in p ≡ steps.now) }
     {
-        if steps.len() > MOST_STEPS {
-            return None;
-        }
-        let mut all = [Step::End; MOST_STEPS];
-        all[0..steps.len()].copy_from_slice(steps);
-        Some(Program {
-            steps: all,
-            len: steps.len(),
-        })
+        let steps = ArrayVec::try_from(steps).ok()?;
+        Some(Program { steps })
     }
 
     pub fn steps(&self) -> &[Step]
         ensures { result.now ≡ steps_in self.now }
     {
-        &self.steps[0..self.len]
+        self.steps.as_slice()
     }
 }

@@ -1,8 +1,7 @@
 ghost use Rattle.std.specs.Prelude.{◌≡◌, ℕ, ◌<◌, ◌≤◌, [], length};
-ghost use Rattle.script.specs.Faults.{fault_at, finished, read_lines, outcome};
+ghost use Rattle.script.specs.Faults.{read_lines, outcome};
 ghost use Rattle.script.specs.Law.{Exactly};
-ghost use Rattle.script.specs.declared.Cause.TheVariants.{Letter};
-ghost use Rattle.listing_reader.specs.Drafts.{progress_of, Roomy, read_as, is_step_letter};
+ghost use Rattle.listing_reader.specs.Drafts.{progress_of, finished_as, read_as, is_step_letter};
 ghost use Rattle.listing_reader.specs.Taking.{LineTaken};
 
 use crate::draft::Draft;
@@ -22,71 +21,35 @@ fn is_step(letter: Option<char>) -> bool
     let Some(letter) = letter else {
         return false;
     };
-    match Kind::of(letter) {
-        Some(kind) => match kind.group() {
-            Group::OfStep => true,
-            _ => false,
-        },
-        None => false,
-    }
+    Kind::try_from(letter).is_ok_and(|kind| kind.group() == Group::OfStep)
 }
 
 impl Draft {
     // Takes in the next line. A job whose steps end before it is admitted first.
     fn take_line(&mut self, reader: &mut Reader) -> Result<(), ListingFault>
         requires more { reader.old.place.at < length reader.old.bytes.now }
-        requires short { reader.old.place.line ≤ 32768 }
-        requires room { Roomy self.old reader.old.place.line }
+        requires line { reader.old.place.line ≡ self.old.line }
+        requires short { self.old.line ≤ 32768 }
         ensures taken { LineTaken reader.old.bytes.now reader.old.place reader.new.place self.old self.new result }
         ensures bytes { reader.new.bytes.now ≡ reader.old.bytes.now }
     {
         let step_follows = is_step(reader.peek_letter());
         self.admit_before(step_follows)?;
-        let line = reader.place.line;
         let content = reader.next_line(self.section)?;
-        self.take_in(line, content)
+        let entry = self.entry(content)?;
+        self.add(entry);
+        Ok(())
     }
 
-    // The script, now that the listing is over.
-    fn finish(self) -> Result<Script, ListingFault>
-        ensures { (line : ℕ) → read_as result ≡ read_lines (progress_of self) line [] }
+    // The draft, now that the listing is over.
+    fn finish(mut self) -> Result<Draft, ListingFault>
+        ensures { (line : ℕ) → finished_as result ≡ read_lines (progress_of self) line [] }
     {
-        let mut draft = self;
-        draft.admit_before(false)?;
-        draft.into_script()
-    }
-
-    fn into_script(self) -> Result<Script, ListingFault>
-        ensures { read_as result ≡ finished (progress_of self) self.section }
-    {
-        let Draft {
-            section,
-            count,
-            presets,
-            jobs,
-            turns,
-            job_line: _,
-            steps: _,
-        } = self;
-        match section {
-            Section::AtStart => Err(no_size()),
-            _ => Ok(Script {
-                count,
-                presets,
-                jobs,
-                turns,
-            }),
+        self.admit_before(false)?;
+        match self.section {
+            Section::AtStart => Err(ListingFault::of_line(Cause::Letter, 1)),
+            _ => Ok(self),
         }
-    }
-}
-
-fn no_size() -> ListingFault
-    ensures { result ≡ fault_at Letter 1 1 }
-{
-    ListingFault {
-        cause: Cause::Letter,
-        line: 1,
-        column: 1,
     }
 }
 
@@ -96,11 +59,7 @@ pub fn read(room: Room, listing: &[u8]) -> Result<Script, ListingFault>
     ensures exact { Exactly listing.now (read_as result) }
 {
     if listing.len() > MOST_BYTES {
-        return Err(ListingFault {
-            cause: Cause::TooLong,
-            line: 1,
-            column: 1,
-        });
+        return Err(ListingFault::of_line(Cause::TooLong, 1));
     }
     let mut draft = Draft::new(room);
     let mut reader = Reader {
@@ -110,5 +69,6 @@ pub fn read(room: Room, listing: &[u8]) -> Result<Script, ListingFault>
     while reader.place.at < listing.len() {
         draft.take_line(&mut reader)?;
     }
-    draft.finish()
+    let Draft { count, lists, .. } = draft.finish()?;
+    Ok(Script { count, lists })
 }

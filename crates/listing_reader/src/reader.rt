@@ -31,10 +31,7 @@ impl Drop for PlaceGuard<'_> {
 fn next_byte(bytes: &[u8], place: &mut Place) -> Option<u8>
     ensures { result ≡ (if nat_lt place.old.at (length bytes.now) then Some (slice_index bytes.now place.old.at) else None) }
 {
-    if place.at >= bytes.len() {
-        return None;
-    }
-    let byte = bytes[place.at];
+    let byte = bytes.get(place.at).copied()?;
     place.at += 1;
     Some(byte)
 }
@@ -44,12 +41,7 @@ fn line_end(bytes: &[u8]) -> Option<usize>
     ensures value { result ≡ end_of bytes.now }
     ensures within { IfSome result (λ i. i < length bytes.now) }
 {
-    for i in 0..bytes.len() {
-        if bytes[i] == LINE_END {
-            return Some(i);
-        }
-    }
-    None
+    bytes.iter().position(|&byte| byte == LINE_END)
 }
 
 impl<'a> Reader<'a> {
@@ -70,6 +62,7 @@ impl<'a> Reader<'a> {
     }
 
     // The bytes of the next line, without the closing byte 10, if it has one. The place moves past it.
+    // That more bytes follow is asked of each caller: no type keeps it, since at the end of a listing it fails.
     pub(crate) fn next_bytes(&mut self) -> Option<&'a [u8]>
         requires { (self.old.place.at < length self.old.bytes.now) × (self.old.place.line < 65537) }
         ensures split { Split self.old.bytes.now self.old.place self.new.place result }
@@ -78,9 +71,7 @@ impl<'a> Reader<'a> {
         let bytes = self.bytes;
         let at = self.place.at;
         let line = self.place.line;
-        let Some(len) = line_end(&bytes[at..]) else {
-            return None;
-        };
+        let len = line_end(&bytes[at..])?;
         self.place = Place {
             at: at + len + 1,
             line: line + 1,

@@ -1,6 +1,7 @@
 ghost use Rattle.std.specs.Prelude.{IfOk};
 ghost use Rattle.listing_reader.specs.Drafts.{Unused};
 
+use crate::lists::Lists;
 use crate::room::Room;
 use job::admission::MOST_JOBS;
 use std::alloc::{AllocError, Global};
@@ -13,11 +14,12 @@ impl Room {
     pub fn new(heap: Global) -> Result<Room, AllocError>
         ensures { IfOk result Unused }
     {
-        Ok(Room {
+        let lists = Lists {
             presets: Vec::with_capacity(heap, MOST_LINES)?,
             jobs: Vec::with_capacity(heap, MOST_JOBS)?,
             turns: Vec::with_capacity(heap, MOST_LINES)?,
-            steps: Vec::with_capacity(heap, MOST_LINES)?,
-        })
+        };
+        let steps = Vec::with_capacity(heap, MOST_LINES)?;
+        Ok(Room { lists, steps })
     }
 }

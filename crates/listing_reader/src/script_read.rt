@@ -1,11 +1,13 @@
-use crate::program::Program;
-use script::{Allotment, Preset};
+ghost use Rattle.script.specs.Scripts.{Within};
+ghost use Rattle.script.proofs.Facts.{within_fact};
+ghost use Rattle.listing_reader.specs.Programs.{script_with};
 
-// What a listing says.
+use crate::lists::Lists;
+
+// What a listing says. Only reading one makes it.
 #[derive(Drop)]
 pub struct Script {
     pub(crate) count: u32,
-    pub(crate) presets: Vec<Preset>,
-    pub(crate) jobs: Vec<Program>,
-    pub(crate) turns: Vec<Allotment>,
+    pub(crate) lists: Lists,
+    ghost within: { Within (script_with count lists) } by { within_fact _ },
 }

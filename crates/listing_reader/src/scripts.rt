@@ -17,19 +17,19 @@ impl Script {
     pub fn presets(&self) -> &[Preset]
         ensures { result.now ≡ (script_in self.now).presets }
     {
-        self.presets.as_slice()
+        self.lists.presets.as_slice()
     }
 
     pub fn jobs(&self) -> &[Program]
         ensures { map steps_in result.now ≡ (script_in self.now).jobs }
     {
-        self.jobs.as_slice()
+        self.lists.jobs.as_slice()
     }
 
     // Who has turns, and how many in a row.
     pub fn turns(&self) -> &[Allotment]
         ensures { result.now ≡ (script_in self.now).turns }
     {
-        self.turns.as_slice()
+        self.lists.turns.as_slice()
     }
 }

@@ -18,13 +18,12 @@ fn run(rt: &HostRuntime) -> anyhow::Result<ExitCode> {
     let heap = rt.alloc();
     let mut listing = Vec::new(heap);
     rt.stdin().take(MOST_BYTES).read_to_end(&mut listing)?;
-    let output = run_listing(heap, listing.as_slice())?;
-    rt.print(output.text.as_str())?;
-    if output.accepted {
-        Ok(ExitCode::SUCCESS)
-    } else {
-        Ok(ExitCode::FAILURE)
-    }
+    let (text, status) = match run_listing(heap, listing.as_slice())? {
+        Ok(report) => (report, ExitCode::SUCCESS),
+        Err(fault) => (fault, ExitCode::FAILURE),
+    };
+    rt.print(text.as_str())?;
+    Ok(status)
 }
 
 // Prints a line and ends well.

@@ -13,10 +13,8 @@ fn repeat(out: &mut String, line: &str, times: u32) -> Result<(), AllocError> {
 // A listing with so many jobs that only end.
 fn with_jobs(heap: Global, jobs: u32) -> Result<String, AllocError> {
     let mut out = String::from_str(heap, "M          1\n")?;
-    for k in 0..jobs {
-        let job = Field(k.wrapping_add(1));
-        let lines = format!(in heap; "J{job}\nE\n")?;
-        out.push_str(lines.as_str())?;
+    for job in 1..=jobs {
+        write!(out, "J{}\nE\n", Field(job))?;
     }
     Ok(out)
 }
@@ -33,10 +31,8 @@ fn sixteen_jobs_and_seventeen(rt: HostRuntime) -> Result<(), Fail> {
     let heap = rt.alloc();
     let mut listing = with_jobs(heap, 16)?;
     let mut output = String::new(heap);
-    for k in 0..16u32 {
-        let job = Field(k.wrapping_add(1));
-        let line = format!(in heap; "N{job}          0          0\n")?;
-        output.push_str(line.as_str())?;
+    for job in 1..=16 {
+        writeln!(output, "N{}          0          0", Field(job))?;
     }
     output.push_str("C          0          0\n")?;
     prints(&rt, heap, listing.as_bytes(), output.as_str())?;

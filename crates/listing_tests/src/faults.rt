@@ -224,24 +224,24 @@ const JOBS: [Case; 13] = [
 
 #[test]
 fn lines_fail(rt: HostRuntime) -> Result<(), Fail> {
-    for k in 0..LINES.len() {
-        prints(&rt, rt.alloc(), LINES[k].listing, LINES[k].output)?;
+    for case in &LINES {
+        prints(&rt, rt.alloc(), case.listing, case.output)?;
     }
     Ok(())
 }
 
 #[test]
 fn fields_fail(rt: HostRuntime) -> Result<(), Fail> {
-    for k in 0..FIELDS.len() {
-        prints(&rt, rt.alloc(), FIELDS[k].listing, FIELDS[k].output)?;
+    for case in &FIELDS {
+        prints(&rt, rt.alloc(), case.listing, case.output)?;
     }
     Ok(())
 }
 
 #[test]
 fn jobs_fail(rt: HostRuntime) -> Result<(), Fail> {
-    for k in 0..JOBS.len() {
-        prints(&rt, rt.alloc(), JOBS[k].listing, JOBS[k].output)?;
+    for case in &JOBS {
+        prints(&rt, rt.alloc(), case.listing, case.output)?;
     }
     Ok(())
 }

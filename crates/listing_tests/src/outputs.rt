@@ -4,10 +4,17 @@ use std::process::Abort;
 use std::test::Fail;
 
 // Holds a listing to what is printed of it, which begins with a `!` where the listing is refused.
-pub fn prints(rt: &impl Abort, heap: Global, listing: &[u8], text: &str) -> Result<(), Fail> {
-    let output = run_listing(heap, listing)?;
-    assert_eq!(rt; output.text.as_str(), text);
-    assert_eq!(rt; output.accepted, !text.starts_with('!'));
+pub(crate) fn prints(
+    rt: &impl Abort,
+    heap: Global,
+    listing: &[u8],
+    text: &str,
+) -> Result<(), Fail> {
+    let printed = run_listing(heap, listing)?;
+    assert_eq!(rt; printed.is_ok(), !text.starts_with('!'));
+    match printed {
+        Ok(printed) | Err(printed) => assert_eq!(rt; printed.as_str(), text),
+    }
     Ok(())
 }
 

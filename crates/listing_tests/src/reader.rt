@@ -9,24 +9,22 @@ use std::test::Fail;
 fn a_fault_has_the_intakes_fault_whole(rt: HostRuntime) -> Result<(), Fail> {
     let room = Room::new(rt.alloc())?;
     let listing = b"M          1\nJ          1\nT\nR          0          1\nE\n";
-    match read(room, listing) {
-        Ok(_) => Err(Fail::new("accepted")),
-        Err(fault) => {
-            assert_eq!(rt;
-                fault,
-                ListingFault {
-                    cause: Cause::Admission(Fault {
-                        refusal: Refusal::NoSuchCell,
-                        step: 2,
-                        field: 2,
-                    }),
-                    line: 4,
-                    column: 13,
-                }
-            );
-            Ok(())
-        },
-    }
+    let Err(fault) = read(room, listing) else {
+        return Err(Fail::new("accepted"));
+    };
+    assert_eq!(rt;
+        fault,
+        ListingFault {
+            cause: Cause::Admission(Fault {
+                refusal: Refusal::NoSuchCell,
+                step: 2,
+                field: 2,
+            }),
+            line: 4,
+            column: 13,
+        }
+    );
+    Ok(())
 }
 
 #[test]
@@ -116,7 +114,7 @@ const FIELDS: [Case; 8] = [
 
 #[test]
 fn fields_and_their_numbers(rt: HostRuntime) {
-    for k in 0..FIELDS.len() {
-        assert_eq!(rt; number_in(FIELDS[k].field), FIELDS[k].number);
+    for case in &FIELDS {
+        assert_eq!(rt; number_in(case.field), case.number);
     }
 }

@@ -1,16 +1,10 @@
 -- Results that are Ok, tests that hold, and lists of known length.
 use Rattle.std.proofs.Common.{◌≡◌, ℕ, Bool, true, false, cond, List, [], ◌∷◌, ◌++◌, length, get_or, None, Ok, Err, Result, refl, arith}
+pub use Rattle.model.proofs.Basics.{zero_one, by_bool}
 use Rattle.script.specs.Scripts.{All}
 use Rattle.script.specs.Faults.{next, unless}
 use Rattle.script.specs.declared.Cause.{Cause}
 use Rattle.script.specs.declared.ListingFault.{ListingFault}
-
-pub zero_one : {P : Type 0} → ◌≡◌ {A = ℕ} 0 1 → P
-zero_one e = absurd (omega arith)
-
-pub by_bool : {P : Type 0} (b : Bool) → (b ≡ true → P) → (b ≡ false → P) → P
-by_bool true f g = f refl
-by_bool false f g = g refl
 
 module _ {A B : Type 0} where
   pub next-ok : (r : Result A ListingFault) (f : A → Result B ListingFault) (y : B) → next r f ≡ Ok y → (x : A) × (r ≡ Ok x) × (f x ≡ Ok y)

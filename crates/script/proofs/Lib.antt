@@ -3,3 +3,4 @@ pub mod Texts
 pub mod Items
 pub mod Sound
 pub mod Complete
+pub mod Facts

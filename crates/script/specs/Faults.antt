@@ -3,6 +3,7 @@ use Rattle.std.specs.Prelude.{ℕ, zero, suc, ◌+◌, ◌*◌, Bool, true, fals
 use Rattle.listing.specs.Columns.{number_of}
 use Rattle.model.specs.Intake.{admission_fault}
 use Rattle.model.specs.Names.{refusal_number}
+use Rattle.report.specs.declared.FaultLine.{FaultLine}
 use Rattle.model.specs.declared.Fault.{Fault}
 use Rattle.model.specs.declared.Refusal.TheVariants as refusal
 use Rattle.model.specs.declared.Step.{Step}
@@ -35,6 +36,10 @@ cause_number (Admission f) = refusal_number f.refusal
 
 abbrev pub fault_at : Cause → ℕ → ℕ → ListingFault
 fault_at cause line column = record { cause = cause; line = line; column = column }
+
+-- The line that tells of a fault.
+abbrev pub fault_line : ListingFault → FaultLine
+fault_line f = record { number = cause_number f.cause; line = f.line; column = f.column }
 
 -- The column at which field k begins, counted from 1; where no field is to blame, column 1.
 abbrev pub column_of : ℕ → ℕ

@@ -1,15 +1,17 @@
 // What a listing can say: the kinds of its lines, the parts of its script, and what may be wrong with it.
 #![tactic(auto)]
 
-ghost use Rattle.std.specs.Prelude.{◌≡◌, ◌&&◌, nat_le};
+ghost use Rattle.std.specs.Prelude.{◌≡◌, ◌≤◌, ok_or};
 ghost use Rattle.script.specs.Lines.{kind_of, fields_of, group_of};
-ghost use Rattle.script.specs.Faults.{cause_number, cause_of, unless, in_order};
+ghost use Rattle.script.specs.Faults.{cause_number, cause_of, in_order, fault_at, column_of, fault_line};
 ghost use Rattle.script.specs.Law.{ListingLaw};
+ghost use Rattle.script.specs.declared.Cause.TheVariants.{Letter};
 
 use model::{Fault, Refusal};
+use report::FaultLine;
 
 // The kinds of lines. Each has a letter and so many fields.
-#[derive(Clone, Copy)]
+#[derive(Clone, Copy, Debug, PartialEq)]
 pub enum Kind {
     // M: how many cells the store has.
     Size,
@@ -31,7 +33,7 @@ pub enum Kind {
 }
 
 // The kinds as far as their order matters.
-#[derive(Clone, Copy)]
+#[derive(Clone, Copy, Debug, PartialEq)]
 pub enum Group {
     OfSize,
     OfCell,
@@ -41,7 +43,7 @@ pub enum Group {
 }
 
 // How far a listing has been read.
-#[derive(Clone, Copy)]
+#[derive(Clone, Copy, Debug, PartialEq)]
 pub enum Section {
     // Nothing was read.
     AtStart,
@@ -91,7 +93,7 @@ pub enum Cause {
 }
 
 // What is asked of the number in a field, beside that it is one.
-#[derive(Clone, Copy)]
+#[derive(Clone, Copy, Debug, PartialEq)]
 pub enum Test {
     AnyNumber,
     // A store has 1 to 4,096 cells.
@@ -114,28 +116,32 @@ pub struct ListingFault {
     pub column: u32,
 }
 
-impl Kind {
-    // The kind of lines with that letter.
-    pub fn of(letter: char) -> Option<Kind>
-        ensures { result ≡ kind_of letter }
-    {
+// The kind of lines with that letter, if it is the letter of a line.
+impl TryFrom<char> for Kind {
+    type Error = Cause;
+
+    ghost try_from_gives = { λ letter kind. kind ≡ ok_or (kind_of letter) Letter };
+
+    fn try_from(letter: char) -> Result<Kind, Cause> {
         match letter {
-            'M' => Some(Kind::Size),
-            'C' => Some(Kind::Cell),
-            'J' => Some(Kind::Job),
-            'R' => Some(Kind::Read),
-            'W' => Some(Kind::Write),
-            'K' => Some(Kind::Load),
-            'A' => Some(Kind::Add),
-            'S' => Some(Kind::Subtract),
-            'L' => Some(Kind::JumpIfLess),
-            'T' => Some(Kind::Wait),
-            'E' => Some(Kind::End),
-            'G' => Some(Kind::Turns),
-            _ => None,
+            'M' => Ok(Kind::Size),
+            'C' => Ok(Kind::Cell),
+            'J' => Ok(Kind::Job),
+            'R' => Ok(Kind::Read),
+            'W' => Ok(Kind::Write),
+            'K' => Ok(Kind::Load),
+            'A' => Ok(Kind::Add),
+            'S' => Ok(Kind::Subtract),
+            'L' => Ok(Kind::JumpIfLess),
+            'T' => Ok(Kind::Wait),
+            'E' => Ok(Kind::End),
+            'G' => Ok(Kind::Turns),
+            _ => Err(Cause::Letter),
         }
     }
+}
 
+impl Kind {
     // How many fields such a line has.
     pub fn fields(self) -> usize
         ensures { result ≡ fields_of self }
@@ -170,27 +176,16 @@ impl Test {
     pub fn cause(self, number: u32) -> Option<Cause>
         ensures { result ≡ cause_of self number }
     {
-        match self {
-            Test::AnyNumber => None,
-            Test::CellCount => unless(is_between(1, MOST_CELLS, number), Cause::NotAllowed),
-            Test::CellBelow(count) => unless(number < count, Cause::NoSuchCell),
-            Test::JobNumber(next) => unless(number == next, Cause::NotAllowed),
-            Test::JobUpTo(jobs) => unless(is_between(1, jobs, number), Cause::NoSuchJob),
-            Test::TurnCount => unless(is_between(1, MOST_TURNS, number), Cause::NotAllowed),
-        }
+        let (passes, cause) = match self {
+            Test::AnyNumber => return None,
+            Test::CellCount => ((1..=MOST_CELLS).contains(&number), Cause::NotAllowed),
+            Test::CellBelow(count) => (number < count, Cause::NoSuchCell),
+            Test::JobNumber(next) => (number == next, Cause::NotAllowed),
+            Test::JobUpTo(jobs) => ((1..=jobs).contains(&number), Cause::NoSuchJob),
+            Test::TurnCount => ((1..=MOST_TURNS).contains(&number), Cause::NotAllowed),
+        };
+        (!passes).then_some(cause)
     }
-}
-
-fn is_between(least: u32, most: u32, number: u32) -> bool
-    ensures { result ≡ (nat_le least number && nat_le number most) }
-{
-    least <= number && number <= most
-}
-
-fn unless(passes: bool, cause: Cause) -> Option<Cause>
-    ensures { result ≡ unless passes cause }
-{
-    if passes { None } else { Some(cause) }
 }
 
 impl Section {
@@ -198,14 +193,17 @@ impl Section {
     pub fn admits(self, group: Group) -> bool
         ensures { result ≡ in_order self group }
     {
-        match (self, group) {
-            (Section::AtStart, Group::OfSize) => true,
-            (Section::InCells, Group::OfCell | Group::OfJob | Group::OfTurns) => true,
-            (Section::InJob, Group::OfStep) => true,
-            (Section::AfterJob, Group::OfJob | Group::OfTurns) => true,
-            (Section::InTurns, Group::OfTurns) => true,
-            _ => false,
-        }
+        matches!(
+            (self, group),
+            (Section::AtStart, Group::OfSize)
+                | (
+                    Section::InCells,
+                    Group::OfCell | Group::OfJob | Group::OfTurns
+                )
+                | (Section::InJob, Group::OfStep)
+                | (Section::AfterJob, Group::OfJob | Group::OfTurns)
+                | (Section::InTurns, Group::OfTurns)
+        )
     }
 }
 
@@ -214,12 +212,12 @@ pub fn law_of_listings()
     ensures { ListingLaw }
 {}
 
-impl Cause {
-    // The number under which it is told; a refused admission has that of its refusal.
-    pub fn number(self) -> u32
-        ensures { result ≡ cause_number self }
-    {
-        match self {
+// The number under which a cause is told; a refused admission has that of its refusal.
+impl From<Cause> for u32 {
+    ghost from_gives = { λ cause number. number ≡ cause_number cause };
+
+    fn from(cause: Cause) -> u32 {
+        match cause {
             Cause::TooLong => 13,
             Cause::Shape => 14,
             Cause::Letter => 15,
@@ -228,6 +226,45 @@ impl Cause {
             Cause::NoSuchCell => u32::from(Refusal::NoSuchCell),
             Cause::NoSuchJob => u32::from(Refusal::NoSuchJob),
             Cause::Admission(fault) => u32::from(fault.refusal),
+        }
+    }
+}
+
+impl ListingFault {
+    // A fault of a line as a whole.
+    pub fn of_line(cause: Cause, line: u32) -> ListingFault
+        ensures { result ≡ fault_at cause line 1 }
+    {
+        ListingFault {
+            cause,
+            line,
+            column: 1,
+        }
+    }
+
+    // A fault of a field of a line, counted from 1, or of no field in particular at 0.
+    pub fn of_field(cause: Cause, line: u32, field: u32) -> ListingFault
+        requires { field ≤ 3 }
+        ensures { result ≡ fault_at cause line (column_of field) }
+    {
+        let column = if field == 0 { 1 } else { 2 + 11 * (field - 1) };
+        ListingFault {
+            cause,
+            line,
+            column,
+        }
+    }
+}
+
+// How a fault is told.
+impl From<ListingFault> for FaultLine {
+    ghost from_gives = { λ fault line. line ≡ fault_line fault };
+
+    fn from(fault: ListingFault) -> FaultLine {
+        FaultLine {
+            number: u32::from(fault.cause),
+            line: fault.line,
+            column: fault.column,
         }
     }
 }

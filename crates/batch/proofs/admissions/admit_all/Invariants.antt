@@ -3,6 +3,6 @@ use Rattle.listing_reader.specs.Drafts.{steps_in}
 use Rattle.batch.specs.Runs.{admit_all, intake_in}
 use Rattle.batch.proofs.admissions.admit_all.Given as goal
 
-abbrev pub invariant-loop-k : goal.invariant-loop-k
-invariant-loop-k g l =
-    admit_all (intake_in g.S.Store.cells l.intake) (map steps_in (drop l.k l.jobs)) ≡ admit_all (intake_in g.S.Store.cells l.initial.intake) (map steps_in l.jobs)
+abbrev pub invariant-loop-job : goal.invariant-loop-job
+invariant-loop-job g l =
+    admit_all (intake_in g.S.Store.cells l.intake) (map steps_in (drop l.job-index l.jobs)) ≡ admit_all (intake_in g.S.Store.cells l.initial.intake) (map steps_in l.jobs)

@@ -1,24 +1,16 @@
-use Rattle.std.proofs.Common.{◌+◌, ◌||◌, drop, sym, ap, ◌∙◌, arith}
-use Rattle.correctable_run.specs.Runs.{state}
-use Rattle.batch.specs.Reports.{has_committed}
-use Rattle.batch.proofs.Reporting.{committed_next, committed_over}
+use Rattle.std.proofs.Common.{rules, tests, ◌≡◌, length, ◌∙◌}
+use Rattle.std.proofs.lemmas.Iterator.Search.{any_from_yields_List}
+use Rattle.model.specs.Logs.{at}
+use Rattle.run.specs.Runs.{state}
+use Rattle.batch.specs.Reports.{is_job}
+use Rattle.batch.proofs.Counting.{all_shown}
+use Rattle.batch.proofs.Reporting.{at_some_place}
 use Rattle.batch.proofs.reports.has_committed.Goals as goal
-
-pub returns-then-stands_at : goal.returns-then-stands_at
-returns-then-stands_at g c =
-    let order = (state g.S.Store.cells c.args.run.now).order in
-    let j = c.args.job in
-    let k = c.loop-k.k in
-    sym (ap (λ t. t || has_committed (drop (k + 1) order) j) (sym c.stands_at.ensures ∙ c.if-stands_at.true)) ∙ (sym (committed_next order k j) ∙ c.loop-k.invariant)
-
-pub loop-k-preserved : goal.loop-k-preserved
-loop-k-preserved g c =
-    let order = (state g.S.Store.cells c.args.run.now).order in
-    let j = c.args.job in
-    let k = c.loop-k.k in
-    sym (ap (λ t. t || has_committed (drop (k + 1) order) j) (sym c.stands_at.ensures ∙ c.if-stands_at.false)) ∙ (sym (committed_next order k j) ∙ c.loop-k.invariant)
 
 pub returns : goal.returns
 returns g c =
     let order = (state g.S.Store.cells c.args.run.now).order in
-    sym (committed_over order c.loop-k.k c.args.job (omega (arith, c.commits-k-end.ensures.value, c.loop-k-test.false))) ∙ c.loop-k.invariant
+    let j = c.args.job in
+    let end : c.new.result.end ≡ length order = c.new.ensures.end ∙ c.commits.ensures.value in
+    any_from_yields_List (λ place. is_job j (at order place)) _ _ c.any.result c.any.ensures.ran (all_shown c.new.result (length order) c.new.ensures.start end c.new.ensures.exhausted) (λ x b q k. search (rules, tests))
+    ∙ at_some_place order j

@@ -1,8 +1,8 @@
-use Rattle.std.proofs.Common.{◌+◌, drop, string_bytes, arith}
+use Rattle.std.proofs.Common.{◌+◌, drop, string_bytes, refl, arith}
 use Rattle.model.specs.Intake.{cell_answer}
-use Rattle.correctable_run.specs.Runs.{state}
-use Rattle.batch.specs.Reports.{answer_text, cells_text}
-use Rattle.batch.proofs.Reporting.{one_more, all_written, cells_next, cells_over}
+use Rattle.run.specs.Runs.{state}
+use Rattle.batch.specs.Reports.{answer_text, cell_text, cells_text}
+use Rattle.batch.proofs.Reporting.{one_more, all_written, cells_next, numbered_over}
 use Rattle.batch.proofs.reports.write_cells.Goals as goal
 
 pub loop-cell-preserved : goal.loop-cell-preserved
@@ -17,4 +17,4 @@ pub returns : goal.returns
 returns g c =
     let cells = (state g.S.Store.cells c.args.run.now).cells in
     let k = c.loop-cell.cell in
-    all_written (string_bytes c.loop-cell.out) (string_bytes c.args.out.now) (cells_text k (drop k cells)) (cells_text 0 cells) (cells_over cells k k (omega (arith, c.count-cell-end.ensures.value, c.loop-cell-test.false))) c.loop-cell.invariant
+    all_written (string_bytes c.loop-cell.out) (string_bytes c.args.out.now) (cells_text k (drop k cells)) (cells_text 0 cells) (numbered_over cell_text (λ n. refl) cells k k (omega (arith, c.count-cell-end.ensures.value, c.loop-cell-test.false))) c.loop-cell.invariant

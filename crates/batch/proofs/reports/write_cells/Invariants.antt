@@ -1,5 +1,5 @@
 use Rattle.std.proofs.Common.{drop, string_bytes}
-use Rattle.correctable_run.specs.Runs.{state}
+use Rattle.run.specs.Runs.{state}
 use Rattle.batch.specs.Reports.{cells_text}
 use Rattle.batch.proofs.Reporting.{Lines}
 use Rattle.batch.proofs.reports.write_cells.Given as goal

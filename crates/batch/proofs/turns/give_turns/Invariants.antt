@@ -1,8 +1,8 @@
 use Rattle.std.proofs.Common.{◌≡◌, ◌-◌, replicate}
 use Rattle.model.specs.Calls.{Turn, after}
-use Rattle.correctable_run.specs.Runs.{state}
+use Rattle.run.specs.Runs.{state}
 use Rattle.batch.proofs.turns.give_turns.Given as goal
 
-abbrev pub invariant-loop-k : goal.invariant-loop-k
-invariant-loop-k g l =
-    after (state g.S.Store.cells l.run) (replicate (l.turns - l.k) (Turn l.job)) ≡ after (state g.S.Store.cells l.initial.run) (replicate l.turns (Turn l.job))
+abbrev pub invariant-loop : goal.invariant-loop
+invariant-loop g l =
+    after (state g.S.Store.cells l.run) (replicate (l.turns - l.counter) (Turn l.job)) ≡ after (state g.S.Store.cells l.initial.run) (replicate l.turns (Turn l.job))
