@@ -2,8 +2,8 @@ ghost use Rattle.std.specs.Prelude.{◌≡◌, map};
 ghost use Rattle.listing_reader.specs.Drafts.{steps_in};
 ghost use Rattle.batch.specs.Runs.{admit_all, intake_in};
 
-use run::intake::Intake;
 use listing_reader::program::Program;
+use run::intake::Intake;
 use store::Store;
 
 // Admits the jobs in their order.

@@ -4,9 +4,9 @@ ghost use Rattle.model.specs.Logs.{at};
 ghost use Rattle.run.specs.Runs.{state};
 ghost use Rattle.batch.specs.Reports.{entry_text, order_text, has_committed, job_text, jobs_text, answer_text, cells_text, report_text};
 
-use run::run::Run;
 use model::Party;
 use report::Line;
+use run::run::Run;
 use std::alloc::{AllocError, Global};
 use store::Store;
 

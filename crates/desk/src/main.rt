@@ -1,10 +1,10 @@
 // A desk corrects a cell by hand while a job adds to it, and prints what happens.
 #![tactic(auto)]
 
+use model::{Applied, Party, Refusal, Step};
 use run::intake::Intake;
 use run::run::Run;
 use run::slip::{Slip, Unfiled};
-use model::{Applied, Party, Refusal, Step};
 use std::io;
 use store::Store;
 use store::word_table::WordTable;
