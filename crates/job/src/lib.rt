@@ -1,6 +1,7 @@
 #![tactic(auto)]
 
 pub mod admission;
+mod cloning;
 pub mod job;
 pub mod jobs;
 pub mod moves;

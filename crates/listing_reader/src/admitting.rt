@@ -17,7 +17,8 @@ fn in_job(job_line: u32, fault: Fault) -> ListingFault
     requires field { fault.field ≤ 3 }
     ensures { result ≡ fault_at (Admission fault) (job_line + fault.step) (column_of fault.field) }
 {
-    ListingFault::of_field(Cause::Admission(fault), job_line + fault.step, fault.field)
+    let field = fault.field as u8;
+    ListingFault::of_field(Cause::Admission(fault), job_line + fault.step, field)
 }
 
 impl Draft {

@@ -15,7 +15,7 @@ use script::{Cause, ListingFault, Test};
 #[derive(Clone, Copy)]
 pub struct FieldPlace {
     pub(crate) line: u32,
-    pub(crate) k: u32,
+    pub(crate) k: u8,
     ghost few: { k < 3 },
 }
 

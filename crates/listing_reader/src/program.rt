@@ -3,7 +3,7 @@ use job::admission::MOST_STEPS;
 use model::Step;
 
 // The steps of a job.
-#[derive(Drop)]
+#[derive(Clone, Drop)]
 pub struct Program {
     pub(crate) steps: ArrayVec<Step, MOST_STEPS>,
 }

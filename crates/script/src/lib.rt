@@ -243,11 +243,13 @@ impl ListingFault {
     }
 
     // A fault of a field of a line, counted from 1, or of no field in particular at 0.
-    pub fn of_field(cause: Cause, line: u32, field: u32) -> ListingFault
-        requires { field ≤ 3 }
+    pub fn of_field(cause: Cause, line: u32, field: u8) -> ListingFault
         ensures { result ≡ fault_at cause line (column_of field) }
     {
-        let column = if field == 0 { 1 } else { 2 + 11 * (field - 1) };
+        let column = match u32::from(field).checked_sub(1) {
+            Some(before) => 2 + 11 * before,
+            None => 1,
+        };
         ListingFault {
             cause,
             line,
