@@ -13,7 +13,7 @@ use Rattle.cell_log.specs.declared.both.Found.{Found}
 use Rattle.cell_log.specs.declared.both.Found.TheVariants.{InWrites, InReads, InStore}
 use Rattle.model.proofs.LogLaws.{length-put_le}
 use Rattle.model.specs.Steps.{following}
-use Rattle.model.specs.Rules.{JobState, place_of, step_or, step_of, in_stage, with_registers}
+use Rattle.model.specs.Rules.{JobState, place_of, step_or, step_of}
 use Rattle.model.specs.Intake.{fault_if, fault, bad_register, step_fault, steps_fault, bad_count, stops, admission_fault}
 use Rattle.model.specs.Law.{WellFormed}
 use Rattle.model.specs.declared.Refusal.{Refusal}
@@ -110,11 +110,6 @@ pub placed_at : (n : ℕ) (program : List Step) (reads writes : Entries) → n <
 placed_at n program reads writes h r w =
     and_from (ltb n (length program)) (leb (length reads) n && leb (length writes) n) (lt-ltb n (length program) h)
     (and_from (leb (length reads) n) (leb (length writes) n) (le-leb (length reads) n r) (le-leb (length writes) n w))
-
--- One step on, with logs that have at most one entry more.
-pub placed_on : (b l : JobState) (registers : List ℕ) (n : ℕ) (reads writes : Entries) → l ≡ with_registers (in_stage b (At (suc n))) registers → suc n < length b.program → length reads ≤ suc n → length writes ≤ suc n → placed l.stage l.program reads writes ≡ true
-placed_on b l registers n reads writes e h r w =
-    subst (λ z. placed z.stage z.program reads writes ≡ true) (sym e) (placed_at (suc n) b.program reads writes h r w)
 
 -- What a reading and a writing leave has at most one entry more.
 pub after_reading : (cells : List ℕ) (c n : ℕ) (old new : Logs) (r : Result Reading Refusal) (x : Reading) → r ≡ Ok x → IfOk r (λ y. FoundIn cells c old new y.number y.found) → length (entries_of old.reads) ≤ n → length (entries_of old.writes) ≤ n → (length (entries_of new.reads) ≤ suc n) × (length (entries_of new.writes) ≤ suc n)

@@ -90,26 +90,14 @@ impl Job {
         self.registers[r as usize]
     }
 
-    // Puts a number into a register, and goes on to the next step.
-    fn load(&mut self, n: u32, register: u32, number: u32)
-        requires stage { self.old.stage ≡ At n }
-        requires within { suc n < length (job_of self.old).program }
-        requires register { register < 8 }
-        ensures { job_of self.new ≡ with_registers (in_stage (job_of self.old) (At (suc n))) (slice_set self.old.registers register number) }
-    {
-        self.registers[register as usize] = number;
-        self.stage = Stage::At(n + 1);
-    }
-
     pub(crate) fn read<S: Store>(&mut self, store: &S, n: u32, register: u32, cell: u32) -> Move
         requires stage { self.old.stage ≡ At n }
         requires step { step_of (job_of self.old) ≡ step.Read register cell }
         ensures { (right : option.Option ℕ) → Moves (S.Store.cells store.now) right (job_of self.old) (job_of self.new) result }
     {
-        let mut logs = self.logs;
-        let reading = logs.read(store, cell).unwrap();
-        self.load(n, register, reading.number);
-        self.logs = logs;
+        let reading = self.logs.read(store, cell).unwrap();
+        self.registers[register as usize] = reading.number;
+        self.stage = Stage::At(n + 1);
         applies_at(read_rule(reading.found), cell)
     }
 
@@ -119,9 +107,8 @@ impl Job {
         ensures { (C : List ℕ) (right : option.Option ℕ) → Moves C right (job_of self.old) (job_of self.new) result }
     {
         let known = self.logs.writes.number(cell).is_some();
-        let mut logs = self.logs;
-        logs.write(cell, self.at(register)).unwrap();
-        self.logs = logs;
+        let number = self.at(register);
+        self.logs.write(cell, number).unwrap();
         self.stage = Stage::At(n + 1);
         if known {
             applies_at(Rule::W1, cell)
@@ -130,13 +117,14 @@ impl Job {
         }
     }
 
-    // Puts what the step makes of the registers into its register.
+    // Puts what the step makes of the registers into its register, and goes on to the next step.
     pub(crate) fn put(&mut self, n: u32, register: u32, number: u32) -> Move
         requires stage { self.old.stage ≡ At n }
         requires step { Makes (step_of (job_of self.old)) self.old.registers register number }
         ensures { (C : List ℕ) (right : option.Option ℕ) → Moves C right (job_of self.old) (job_of self.new) result }
     {
-        self.load(n, register, number);
+        self.registers[register as usize] = number;
+        self.stage = Stage::At(n + 1);
         applies(Rule::P)
     }
 
