@@ -19,9 +19,6 @@ const NUMBER: u32 = 7;
 
 const CORRECTED: u32 = 20;
 
-// The most commits that a run can have.
-const MOST_COMMITS: u32 = 24;
-
 // How many turns the job has before a correction is filed, and more than it can use.
 const FEW_TURNS: u32 = 3;
 
@@ -150,13 +147,13 @@ fn think_better<S: Store>(rt: &impl Print, run: &mut Run<S>) -> io::Result<()> {
 }
 
 fn print_order<S: Store>(rt: &impl Print, run: &Run<S>) -> io::Result<()> {
-    for place in 1..=MOST_COMMITS {
+    for place in 1..=run.commits() as u32 {
         match run.entry(place) {
             Some(Party::Job(job)) => println!(rt; "place {place}: job {job}")?,
             Some(Party::Correction(correction)) => println!(rt;
                 "place {place}: correction {correction}"
             )?,
-            None => break,
+            None => {}
         }
     }
     Ok(())

@@ -17,13 +17,11 @@ const CELL: u32 = 0;
 
 const NUMBER: u32 = 7;
 
-// The most commits that a run can have.
-const MOST_COMMITS: u32 = 24;
-
 // More turns than the one job can use.
 const MOST_TURNS: u32 = 100;
 
-// Reads the cell, adds one, writes it back and ends.
+// Reads the cell, adds one, writes it back and ends. The program `desk` has this job too: what both print of it is a few
+// lines, which a crate of their own would make public.
 const PROGRAM: [Step; 5] = [
     Step::Read {
         register: 0,
@@ -58,11 +56,8 @@ fn play<S: Store>(rt: &impl Print, run: &mut Run<S>, job: u32) -> io::Result<()>
 // Prints the job's place in the commit order, and then the job.
 fn print_jobs<S: Store>(rt: &impl Print, run: &Run<S>, job: u32) -> io::Result<()> {
     let mut committed = false;
-    for place in 1..=MOST_COMMITS {
-        let Some(party) = run.entry(place) else {
-            break;
-        };
-        if party == Party::Job(job) {
+    for place in 1..=run.commits() as u32 {
+        if run.entry(place) == Some(Party::Job(job)) {
             committed = true;
             rt.println(Line::Committed { place, job })?;
         }

@@ -15,6 +15,7 @@ pub struct Job {
     pub(crate) registers: [u32; REGISTERS],
     pub(crate) logs: Logs,
     // The mark is set while the job validates. A commit of another party removes it, and then the job starts again.
+    // A flag beside the stage, for a job may keep it through its rollback.
     pub(crate) marked: bool,
     pub(crate) starts: u32,
     ghost runnable: { runnable program.items ≡ true },

@@ -48,7 +48,8 @@ impl Draft {
         Ok(())
     }
 
-    // Admits the job that was read, if there is one and no step of it follows.
+    // Admits the job that was read, if there is one and no step of it follows. The flag is all that is known of what
+    // follows: no value goes with it.
     pub(crate) fn admit_before(&mut self, step_follows: bool) -> Result<(), ListingFault>
         ensures read { Reads (admit_before (progress_of self.old) step_follows) result self.new }
         ensures line { self.new.line ≡ self.old.line }

@@ -13,7 +13,7 @@ pub enum Line {
         place: u32,
         job: u32,
     },
-    // N: a job, how often it started, and whether it committed.
+    // N: a job, how often it started, and whether it committed, a flag since it is printed as 1 or 0.
     Job {
         job: u32,
         starts: u32,

@@ -1,7 +1,8 @@
 use store::Store;
 use table::table::Table;
 
-// A running run. Only it takes turns and corrections, and only sealing an intake makes one.
+// A running run. Only it takes turns and corrections, and only sealing an intake makes one. That its store stays the same
+// loan is said of each call: it relates before and after, and so is no invariant of a run.
 pub struct Run<S: Store> {
     pub(crate) store: S,
     pub(crate) table: Table,

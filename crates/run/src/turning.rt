@@ -25,8 +25,10 @@ impl<S: Store> Run<S> {
         ensures next { state S.Store.cells self.new ≡ (settle (state S.Store.cells self.old)).next }
         ensures loan { S.Store.loan self.new.store ≡ S.Store.loan self.old.store }
     {
+        // The bound stays: that the holder of the right gets on with its commit is no fact of a run's type, so by itself
+        // `while let` would not be seen to end.
         let most = self.table.len() + MOST_COMMIT_TURNS;
-        for k in 0..most {
+        for _ in 0..most {
             let Some(holder) = self.table.right() else {
                 return;
             };

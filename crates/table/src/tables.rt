@@ -13,6 +13,8 @@ use job::moves::Move;
 use model::{Entry, Party, Refusal};
 use store::Store;
 
+// A job's place is a number, and nothing ties it to a table by its type, so each function that is given one says that it
+// is a place.
 impl Table {
     // How many jobs were admitted.
     pub fn len(&self) -> usize

@@ -3,7 +3,7 @@ use Rattle.model.specs.Calls.{settle_in}
 use Rattle.run.specs.Runs.{state}
 use Rattle.run.proofs.run.Run.settle.Given as goal
 
-abbrev pub invariant-loop-k : goal.invariant-loop-k
-invariant-loop-k g l =
-    ((settle_in (l.most - l.k) (state g.S.Store.cells l.self)).next ≡ (settle_in l.most (state g.S.Store.cells l.initial.self)).next)
+abbrev pub invariant-loop : goal.invariant-loop
+invariant-loop g l =
+    ((settle_in (l.most - l.counter) (state g.S.Store.cells l.self)).next ≡ (settle_in l.most (state g.S.Store.cells l.initial.self)).next)
     × (g.S.Store.loan l.self.store ≡ g.S.Store.loan l.initial.self.store)
