@@ -24,11 +24,10 @@ use write_back::WriteBack;
 const RUN: u32 = 1;
 
 // The run of a script over a store whose cells all hold 0, after its turns and settling.
-fn run_script<S: Store>(store: S, script: &Script) -> Run<S>
+fn run_script<S: Store>(mut store: S, script: &Script) -> Run<S>
     requires { S.Store.cells store ≡ replicate (script_in script.now).count 0 }
     ensures { state S.Store.cells result ≡ final_state (script_in script.now) }
 {
-    let mut store = store;
     preset(&mut store, script.presets());
     let mut intake = Intake::new(store, RUN);
     admit_all(&mut intake, script.jobs());

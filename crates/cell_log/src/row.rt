@@ -8,7 +8,8 @@ use model::Entry;
 pub const ROOM: usize = 24;
 
 // A log as it lies in a job or a correction. Nothing is promised of it: `Log::try_from` looks.
-// Array and length stand side by side, since a row is a plain record in fixed memory, copied with what it lies in.
+// Array and length side by side and no `ArrayVec`, since a row is plain: it is copied with what it lies in, its fields are
+// public, and any length may stand in it until `Log::try_from` looks.
 #[derive(Clone, Copy)]
 pub struct LogRow {
     pub entries: [Entry; ROOM],

@@ -81,10 +81,7 @@ impl Correction {
         ensures same { S.Store.loan store.new ≡ S.Store.loan store.old }
     {
         self.logs.writes.set_all(store);
-        *self = Correction {
-            is_open: false,
-            ..*self
-        };
+        self.is_open = false; // The logs stay.
         self.logs.writes.len() as u32
     }
 

@@ -21,7 +21,7 @@ const NUMBER: u32 = 7;
 const MOST_TURNS: u32 = 100;
 
 // Reads the cell, adds one, writes it back and ends. The program `desk` has this job too: what both print of it is a few
-// lines, which a crate of their own would make public.
+// lines, and a crate of their own, with contracts and edits, would be no plainer.
 const PROGRAM: [Step; 5] = [
     Step::Read {
         register: 0,

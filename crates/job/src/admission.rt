@@ -13,15 +13,24 @@ pub(crate) const REGISTERS: usize = 8;
 const LAST_REGISTER: u32 = 7;
 
 // Why these steps are not admitted after so many jobs, over a store of so many cells: the first test that fails.
-// An Option and no Result: the faults of two tests are joined by `or`, and `Job::admit` alone makes an Err of one.
+// An Option and no Result: the faults of two tests are joined by `or`, and its callers, `Job::admit` and the reader of
+// listings, make different Errs of one.
 pub fn admission_fault(jobs: usize, count: usize, steps: &[Step]) -> Option<Fault>
     ensures { result ≡ admission_fault jobs count steps.now }
 {
     if jobs >= MOST_JOBS {
-        return fault_if(true, Refusal::TooManyJobs, 0, 0);
+        return Some(Fault {
+            refusal: Refusal::TooManyJobs,
+            step: 0,
+            field: 0,
+        });
     }
     if steps.is_empty() || steps.len() > MOST_STEPS {
-        return fault_if(true, Refusal::StepCount, 0, 0);
+        return Some(Fault {
+            refusal: Refusal::StepCount,
+            step: 0,
+            field: 0,
+        });
     }
     let last = steps.len() as u32;
     first_fault(count, steps).or(fault_if(!last_stops(steps), Refusal::LastStep, last, 0))

@@ -5,7 +5,8 @@ use crate::job::Job;
 use arrayvec::ArrayVec;
 use std::alloc::AllocError;
 
-// The program is copied into the new job, which needs no memory but its own.
+// Written by hand, since no Clone is derived beside ghost fields. It never fails: the program is copied into the new job,
+// which needs no memory but its own.
 impl Clone for Job {
     ghost is_clone = { λ job copy. job_of copy ≡ job_of job };
 

@@ -17,8 +17,11 @@ fn in_job(job_line: u32, fault: Fault) -> ListingFault
     requires field { fault.field ≤ 3 }
     ensures { result ≡ fault_at (Admission fault) (job_line + fault.step) (column_of fault.field) }
 {
-    let field = fault.field as u8;
-    ListingFault::of_field(Cause::Admission(fault), job_line + fault.step, field)
+    let line = job_line + fault.step;
+    match fault.field.checked_sub(1) {
+        Some(before) => ListingFault::of_field(Cause::Admission(fault), line, before as u8),
+        None => ListingFault::of_line(Cause::Admission(fault), line),
+    }
 }
 
 impl Draft {

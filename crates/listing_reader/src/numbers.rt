@@ -23,7 +23,7 @@ impl FieldPlace {
     fn fault(self, cause: Cause) -> ListingFault
         ensures { result ≡ fault_at cause self.line (column_of (suc self.k)) }
     {
-        ListingFault::of_field(cause, self.line, self.k + 1)
+        ListingFault::of_field(cause, self.line, self.k)
     }
 
     // The number in the field, if it is one and passes the test.

@@ -66,6 +66,7 @@ pub fn read(room: Room, listing: &[u8]) -> Result<Script, ListingFault>
         bytes: listing,
         place: Place { at: 0, line: 1 },
     };
+    // Line by line, by the place of the reader: that is the form that reading a listing has here.
     while reader.place.at < listing.len() {
         draft.take_line(&mut reader)?;
     }

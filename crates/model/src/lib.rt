@@ -169,7 +169,7 @@ impl From<Refusal> for u32 {
 }
 
 // Why a job was not admitted: the step, from 1, or 0 where no step is to blame, and the field of that step, or 0.
-// The zeros stay: they are what is told, in a listing the line of the job and column 1, and no one takes them apart.
+// The zeros stay: the definitions of the law count so, and the step is added to the line of its job as it is.
 #[derive(Clone, Copy, Debug, PartialEq)]
 pub struct Fault {
     pub refusal: Refusal,

@@ -10,7 +10,7 @@ use store::Store;
 // A run with a job that adds 1 to cell 0.
 fn adding<S: Store>(checks: &mut Checks, store: S) -> Run<S> {
     let mut intake = Intake::new(store, 4);
-    checks.that("adding", intake.admit(&adder(0, 1)) == Ok(1));
+    checks.that("adding: admission", intake.admit(&adder(0, 1)) == Ok(1));
     intake.seal()
 }
 
@@ -29,21 +29,24 @@ pub(crate) fn filed<S: Store>(run: &mut Run<S>, slip: Slip) -> Result<(), Refusa
 pub(crate) fn outdated<S: Store>(checks: &mut Checks, store: S) -> S {
     let mut run = adding(checks, store);
     let Ok(slip) = run.open_correction() else {
-        checks.that("opening", false);
+        checks.that("outdated: opening", false);
         return run.close();
     };
-    checks.that("outdated", run.read(&slip, 0) == Ok(7));
+    checks.that("outdated: the reading", run.read(&slip, 0) == Ok(7));
     checks.that(
-        "outdated",
+        "outdated: the job commits",
         turns(&mut run, 1, 11) == 10 && run.entry(1) == Some(Party::Job(1)),
     );
     checks.that(
-        "outdated",
+        "outdated: the filing is refused",
         filed(&mut run, slip) == Err(Refusal::Changed { cell: 0 }),
     );
-    checks.that("outdated", run.cell(0) == Ok(8) && run.starts(1) == Ok(1));
     checks.that(
-        "outdated",
+        "outdated: cell and starts",
+        run.cell(0) == Ok(8) && run.starts(1) == Ok(1),
+    );
+    checks.that(
+        "outdated: nothing else was set",
         run.entry(2).is_none() && run.takings() == 1 && run.settings() == 1,
     );
     run.close()
@@ -53,32 +56,32 @@ pub(crate) fn outdated<S: Store>(checks: &mut Checks, store: S) -> S {
 pub(crate) fn overtaken<S: Store>(checks: &mut Checks, store: S) -> S {
     let mut run = adding(checks, store);
     let Ok(slip) = run.open_correction() else {
-        checks.that("opening", false);
+        checks.that("overtaken: opening", false);
         return run.close();
     };
     checks.that(
-        "overtaken",
+        "overtaken: the writing",
         run.write(&slip, 0, 5) == Ok(()) && run.cell(0) == Ok(7),
     );
-    checks.that("overtaken", turns(&mut run, 1, 6) == 6);
+    checks.that("overtaken: the job validates", turns(&mut run, 1, 6) == 6);
     checks.that(
-        "overtaken",
+        "overtaken: the filing",
         filed(&mut run, slip) == Ok(()) && run.cell(0) == Ok(5),
     );
     checks.that(
-        "overtaken",
+        "overtaken: the mark is gone",
         matches!(run.turn(1), Ok(Some(Applied { rule: Rule::V4, .. }))),
     );
     checks.that(
-        "overtaken",
+        "overtaken: the job starts again",
         settled_turns(&mut run, 1) == 13 && run.starts(1) == Ok(2),
     );
     checks.that(
-        "overtaken",
+        "overtaken: what is left",
         run.cell(0) == Ok(6) && run.takings() == 2 && run.settings() == 2,
     );
     checks.that(
-        "overtaken",
+        "overtaken: the order",
         run.entry(1) == Some(Party::Correction(1)) && run.entry(2) == Some(Party::Job(1)),
     );
     run.close()
@@ -87,17 +90,20 @@ pub(crate) fn overtaken<S: Store>(checks: &mut Checks, store: S) -> S {
 // The job has read 7, a correction sets 7 again, and the job commits with one start.
 pub(crate) fn set_again<S: Store>(checks: &mut Checks, store: S) -> S {
     let mut run = adding(checks, store);
-    checks.that("set again", turns(&mut run, 1, 2) == 2);
+    checks.that("set again: the job reads", turns(&mut run, 1, 2) == 2);
     let Ok(slip) = run.open_correction() else {
-        checks.that("opening", false);
+        checks.that("set again: opening", false);
         return run.close();
     };
-    checks.that("set again", run.write(&slip, 0, 7) == Ok(()));
-    checks.that("set again", filed(&mut run, slip) == Ok(()));
+    checks.that("set again: the writing", run.write(&slip, 0, 7) == Ok(()));
+    checks.that("set again: the filing", filed(&mut run, slip) == Ok(()));
     checks.that(
-        "set again",
+        "set again: the job commits",
         settled_turns(&mut run, 1) == 8 && run.entry(2) == Some(Party::Job(1)),
     );
-    checks.that("set again", run.cell(0) == Ok(8) && run.starts(1) == Ok(1));
+    checks.that(
+        "set again: cell and starts",
+        run.cell(0) == Ok(8) && run.starts(1) == Ok(1),
+    );
     run.close()
 }

@@ -17,20 +17,29 @@ const MOST_ROUNDS: u32 = 2000;
 pub(crate) fn sums<S: Store>(checks: &mut Checks, store: S) -> S {
     let mut intake = Intake::new(store, 1);
     for job in 1..=ADDERS {
-        checks.that("sums", intake.admit(&adder(job % 3, job)) == Ok(job));
+        checks.that(
+            "sums: admission",
+            intake.admit(&adder(job % 3, job)) == Ok(job),
+        );
     }
     let mut run = intake.seal();
     rounds(&mut run);
     checks.that(
-        "sums",
+        "sums: no place before the first or after the last",
         run.entry(0).is_none() && run.entry(ADDERS + 1).is_none(),
     );
-    checks.that("sums", (1..=ADDERS).all(|job| stands(&run, job)));
-    checks.that("sums", starts(&run) > ADDERS);
-    checks.that("sums", run.takings() == ADDERS && run.settings() == ADDERS);
+    checks.that(
+        "sums: all commit",
+        (1..=ADDERS).all(|job| stands(&run, job)),
+    );
+    checks.that("sums: some start again", starts(&run) > ADDERS);
+    checks.that(
+        "sums: takings and settings",
+        run.takings() == ADDERS && run.settings() == ADDERS,
+    );
     let store = run.close();
     checks.that(
-        "sums",
+        "sums: the cells",
         store.get(0) == Some(45) && store.get(1) == Some(51) && store.get(2) == Some(40),
     );
     store
@@ -69,26 +78,26 @@ fn starts<S: Store>(run: &Run<S>) -> u32 {
 pub(crate) fn waits<S: Store>(checks: &mut Checks, store: S) -> S {
     let mut intake = Intake::new(store, 2);
     checks.that(
-        "waits",
+        "waits: admission",
         intake.admit(&mover(0, 1)) == Ok(1) && intake.admit(&adder(0, 5)) == Ok(2),
     );
     let mut run = intake.seal();
     checks.that(
-        "waits",
+        "waits: the mover rests",
         settled_turns(&mut run, 1) == 3 && run.entry(1).is_none(),
     );
     checks.that(
-        "waits",
+        "waits: the adder commits",
         settled_turns(&mut run, 2) == 10 && run.entry(1) == Some(Party::Job(2)),
     );
     let woke = Applied {
         rule: Rule::Rt,
         cell: Some(0),
     };
-    checks.that("waits", run.turn(1) == Ok(Some(woke)));
+    checks.that("waits: the mover wakes", run.turn(1) == Ok(Some(woke)));
     settled_turns(&mut run, 1);
     checks.that(
-        "waits",
+        "waits: the number is moved",
         run.cell(0) == Ok(0) && run.cell(1) == Ok(5) && run.starts(1) == Ok(2),
     );
     run.close()
@@ -98,21 +107,24 @@ pub(crate) fn waits<S: Store>(checks: &mut Checks, store: S) -> S {
 pub(crate) fn settles<S: Store>(checks: &mut Checks, store: S) -> S {
     let mut intake = Intake::new(store, 3);
     checks.that(
-        "settles",
+        "settles: admission",
         intake.admit(&adder(2, 9)) == Ok(1) && intake.admit(&adder(1, 8)) == Ok(2),
     );
     let mut run = intake.seal();
     checks.that(
-        "settles",
+        "settles: the right is held",
         takes_right(&mut run, 1) && run.settings() == 0 && run.entry(1).is_none(),
     );
     run.settle();
     checks.that(
-        "settles",
+        "settles: settling commits",
         run.cell(2) == Ok(9) && run.settings() == 1 && run.entry(1) == Some(Party::Job(1)),
     );
-    checks.that("settles", takes_right(&mut run, 2) && run.cell(1) == Ok(0));
+    checks.that(
+        "settles: the right is held again",
+        takes_right(&mut run, 2) && run.cell(1) == Ok(0),
+    );
     let store = run.close();
-    checks.that("settles", store.get(1) == Some(8));
+    checks.that("settles: closing commits", store.get(1) == Some(8));
     store
 }

@@ -18,12 +18,15 @@ fn admissions(rt: HostRuntime) {
     let mut intake = Intake::new(WordTable::new(&mut words), 1);
     refuses_steps(&mut checks, &mut intake);
     refuses_programs(&mut checks, &mut intake);
-    checks.that("admissions", intake.admit(&longest()) == Ok(1));
+    checks.that("admissions: the longest", intake.admit(&longest()) == Ok(1));
     for job in 2..=ADDERS {
-        checks.that("admissions", intake.admit(&adder(1, 1)) == Ok(job));
+        checks.that(
+            "admissions: as many as there may be",
+            intake.admit(&adder(1, 1)) == Ok(job),
+        );
     }
     checks.that(
-        "admissions",
+        "admissions: a 17th",
         intake.admit(&[]) == fault(Refusal::TooManyJobs, 0, 0),
     );
     drop(intake.seal().close());
@@ -50,7 +53,7 @@ fn wrong_steps() -> [(Step, Refusal, u32); 11] {
 fn refuses_steps<S: Store>(checks: &mut Checks, intake: &mut Intake<S>) {
     for (step, refusal, field) in wrong_steps() {
         checks.that(
-            "refuses steps",
+            "a wrong step",
             intake.admit(&[step, Step::End]) == fault(refusal, 1, field),
         );
     }
@@ -59,19 +62,19 @@ fn refuses_steps<S: Store>(checks: &mut Checks, intake: &mut Intake<S>) {
 // No steps, one too many, a fault in the second step before one of the last, and a last step that goes on.
 fn refuses_programs<S: Store>(checks: &mut Checks, intake: &mut Intake<S>) {
     checks.that(
-        "refuses programs",
+        "no steps",
         intake.admit(&[]) == fault(Refusal::StepCount, 0, 0),
     );
     checks.that(
-        "refuses programs",
+        "25 steps",
         intake.admit(&[Step::End; 25]) == fault(Refusal::StepCount, 0, 0),
     );
     checks.that(
-        "refuses programs",
+        "a wrong second step",
         intake.admit(&[load(0), load(8), load(0)]) == fault(Refusal::NoSuchRegister, 2, 1),
     );
     checks.that(
-        "refuses programs",
+        "a last step that goes on",
         intake.admit(&[Step::End, load(0)]) == fault(Refusal::LastStep, 2, 0),
     );
 }
@@ -125,13 +128,19 @@ fn calls(rt: HostRuntime) {
     let mut checks = Checks::new();
     let mut words = [4; CELLS as usize];
     let mut intake = Intake::new(WordTable::new(&mut words), 1);
-    checks.that("calls", intake.admit(&[Step::End]) == Ok(1));
+    checks.that("calls: admission", intake.admit(&[Step::End]) == Ok(1));
     let mut run = intake.seal();
     refuses_jobs(&mut checks, &mut run);
     for cell in [CELLS, 65_536, u32::MAX] {
-        checks.that("calls", run.cell(cell) == Err(Refusal::NoSuchCell));
+        checks.that(
+            "calls: no such cell",
+            run.cell(cell) == Err(Refusal::NoSuchCell),
+        );
     }
-    checks.that("calls", run.cell(1) == Ok(4) && run.starts(1) == Ok(0));
+    checks.that(
+        "calls: a cell and a job",
+        run.cell(1) == Ok(4) && run.starts(1) == Ok(0),
+    );
     drop(run.close());
     assert_eq!(rt; checks.failed(), None);
 }
@@ -139,9 +148,12 @@ fn calls(rt: HostRuntime) {
 fn refuses_jobs<S: Store>(checks: &mut Checks, run: &mut Run<S>) {
     for job in [0, 2, 17, u32::MAX] {
         checks.that(
-            "refuses jobs",
+            "a turn of no job",
             matches!(run.turn(job), Err(Refusal::NoSuchJob)),
         );
-        checks.that("refuses jobs", run.starts(job) == Err(Refusal::NoSuchJob));
+        checks.that(
+            "starts of no job",
+            run.starts(job) == Err(Refusal::NoSuchJob),
+        );
     }
 }

@@ -25,7 +25,7 @@ fn in_one_run(rt: HostRuntime) {
     let mut checks = Checks::new();
     let mut words = [3; CELLS as usize];
     let mut intake = Intake::new(WordTable::new(&mut words), RUN);
-    checks.that("in one run", intake.admit(&adder(0, 1)) == Ok(1));
+    checks.that("one run: admission", intake.admit(&adder(0, 1)) == Ok(1));
     let mut run = intake.seal();
     logs_fill(&mut checks, &mut run);
     two_at_a_time(&mut checks, &mut run);
@@ -41,45 +41,63 @@ fn in_one_run(rt: HostRuntime) {
 // Correction 1 reads and writes as many cells as its logs have room for, and one more.
 fn logs_fill<S: Store>(checks: &mut Checks, run: &mut Run<S>) {
     let Ok(slip) = run.open_correction() else {
-        return checks.that("opening", false);
+        return checks.that("full logs: opening", false);
     };
-    checks.that("logs fill", slip.run() == RUN && slip.correction() == 1);
     checks.that(
-        "logs fill",
+        "full logs: numbers of the slip",
+        slip.run() == RUN && slip.correction() == 1,
+    );
+    checks.that(
+        "full logs: reading beyond the cells",
         run.read(&slip, CELLS) == Err(Refusal::NoSuchCell),
     );
     checks.that(
-        "logs fill",
+        "full logs: writing beyond the cells",
         run.write(&slip, CELLS, 1) == Err(Refusal::NoSuchCell),
     );
     reads_all(checks, run, &slip);
     writes_all(checks, run, &slip);
-    checks.that("logs fill", filed(run, slip) == Ok(()));
+    checks.that("full logs: the filing", filed(run, slip) == Ok(()));
     checks.that(
-        "logs fill",
+        "full logs: the cells",
         run.cell(0) == Ok(3) && run.cell(1) == Ok(2) && run.cell(ROOM) == Ok(ROOM),
     );
-    checks.that("logs fill", run.takings() == 1 && run.settings() == ROOM);
+    checks.that(
+        "full logs: takings and settings",
+        run.takings() == 1 && run.settings() == ROOM,
+    );
 }
 
 // Reads each cell that there is room for, and no other.
 fn reads_all<S: Store>(checks: &mut Checks, run: &mut Run<S>, slip: &Slip) {
     for cell in 0..ROOM {
-        checks.that("reads all", run.read(slip, cell) == Ok(3));
+        checks.that("full logs: a reading", run.read(slip, cell) == Ok(3));
     }
-    checks.that("reads all", run.read(slip, ROOM) == Err(Refusal::LogFull));
-    checks.that("reads all", run.read(slip, 0) == Ok(3));
+    checks.that(
+        "full logs: a 25th reading",
+        run.read(slip, ROOM) == Err(Refusal::LogFull),
+    );
+    checks.that("full logs: a cell read again", run.read(slip, 0) == Ok(3));
 }
 
 // Writes its own number for each cell but the first, then another for one of them.
 fn writes_all<S: Store>(checks: &mut Checks, run: &mut Run<S>, slip: &Slip) {
     for cell in 1..=ROOM {
-        checks.that("writes all", run.write(slip, cell, cell) == Ok(()));
+        checks.that(
+            "full logs: a writing",
+            run.write(slip, cell, cell) == Ok(()),
+        );
     }
-    checks.that("writes all", run.write(slip, 0, 1) == Err(Refusal::LogFull));
-    checks.that("writes all", run.write(slip, 1, 2) == Ok(()));
     checks.that(
-        "writes all",
+        "full logs: a 25th writing",
+        run.write(slip, 0, 1) == Err(Refusal::LogFull),
+    );
+    checks.that(
+        "full logs: a cell written again",
+        run.write(slip, 1, 2) == Ok(()),
+    );
+    checks.that(
+        "full logs: what was written is read",
         run.read(slip, 1) == Ok(2) && run.read(slip, ROOM) == Ok(ROOM),
     );
 }
@@ -87,24 +105,24 @@ fn writes_all<S: Store>(checks: &mut Checks, run: &mut Run<S>, slip: &Slip) {
 // Corrections 2 and 3 are open at a time. The one that has read what the other sets is refused.
 fn two_at_a_time<S: Store>(checks: &mut Checks, run: &mut Run<S>) {
     let Ok(one) = run.open_correction() else {
-        return checks.that("opening", false);
+        return checks.that("two: opening one", false);
     };
     let Ok(other) = run.open_correction() else {
         one.discard();
-        return checks.that("opening", false);
+        return checks.that("two: opening the other", false);
     };
     checks.that(
-        "two at a time",
+        "two: writing and reading",
         run.write(&one, 2, 7) == Ok(()) && run.read(&other, 2) == Ok(2),
     );
-    checks.that("two at a time", run.read(&one, 2) == Ok(7));
-    checks.that("two at a time", filed(run, one) == Ok(()));
+    checks.that("two: the own writing is read", run.read(&one, 2) == Ok(7));
+    checks.that("two: filing one", filed(run, one) == Ok(()));
     checks.that(
-        "two at a time",
+        "two: filing the other",
         filed(run, other) == Err(Refusal::Changed { cell: 2 }),
     );
     checks.that(
-        "two at a time",
+        "two: the order",
         run.entry(2) == Some(Party::Correction(2)) && run.entry(3).is_none(),
     );
 }
@@ -112,20 +130,20 @@ fn two_at_a_time<S: Store>(checks: &mut Checks, run: &mut Run<S>) {
 // Correction 4 is refused while the job holds the right, and comes back as it was.
 fn waits_for_the_right<S: Store>(checks: &mut Checks, run: &mut Run<S>) {
     let Ok(slip) = run.open_correction() else {
-        return checks.that("opening", false);
+        return checks.that("waiting: opening", false);
     };
-    checks.that("waits for the right", run.write(&slip, 3, 9) == Ok(()));
-    checks.that("waits for the right", takes_right(run, 1));
+    checks.that("waiting: the writing", run.write(&slip, 3, 9) == Ok(()));
+    checks.that("waiting: the right is held", takes_right(run, 1));
     let Some(slip) = refused_filing(run, slip, Refusal::RightHeld) else {
-        return checks.that("refusal of a filing", false);
+        return checks.that("waiting: the filing is refused", false);
     };
     run.settle();
     checks.that(
-        "waits for the right",
+        "waiting: the slip comes back as it was",
         slip.correction() == 4 && run.read(&slip, 3) == Ok(9),
     );
     checks.that(
-        "waits for the right",
+        "waiting: filed once the right is free",
         filed(run, slip) == Ok(()) && run.cell(3) == Ok(9),
     );
 }
@@ -145,20 +163,23 @@ fn refused_filing<S: Store>(run: &mut Run<S>, slip: Slip, why: Refusal) -> Optio
 // Opens the next correction, and withdraws it.
 fn opens<S: Store>(checks: &mut Checks, run: &mut Run<S>, number: u32) {
     let Ok(slip) = run.open_correction() else {
-        return checks.that("opening", false);
+        return checks.that("the rest: opening", false);
     };
-    checks.that("opens", slip.correction() == number);
-    checks.that("opens", run.write(&slip, 4, 1) == Ok(()));
-    checks.that("opens", run.withdraw(slip) == Ok(()));
+    checks.that("the rest: numbers", slip.correction() == number);
+    checks.that("the rest: a writing", run.write(&slip, 4, 1) == Ok(()));
+    checks.that("the rest: withdrawing", run.withdraw(slip) == Ok(()));
 }
 
 fn refuses_one_more<S: Store>(checks: &mut Checks, run: &mut Run<S>) {
     match run.open_correction() {
         Ok(slip) => {
             slip.discard();
-            checks.that("refuses one more", false);
+            checks.that("a ninth: opened", false);
         }
-        Err(refusal) => checks.that("refuses one more", refusal == Refusal::TooManyCorrections),
+        Err(refusal) => checks.that(
+            "a ninth: refused otherwise",
+            refusal == Refusal::TooManyCorrections,
+        ),
     }
 }
 
@@ -174,12 +195,15 @@ fn in_two_runs(rt: HostRuntime) {
     let slip = run.open_correction().expect(&rt, "first");
     let own = other.open_correction().expect(&rt, "first of the other");
     refuses_slip(&mut checks, &mut other, slip);
-    checks.that("in two runs", other.withdraw(own) == Ok(()));
+    checks.that(
+        "two runs: withdrawing the other's own",
+        other.withdraw(own) == Ok(()),
+    );
     let slip = run.open_correction().expect(&rt, "second");
-    checks.that("in two runs", run.write(&slip, 0, 8) == Ok(()));
+    checks.that("two runs: a writing", run.write(&slip, 0, 8) == Ok(()));
     let table = run.close();
     slip.discard();
-    checks.that("in two runs", table.get(0) == Some(3));
+    checks.that("two runs: nothing was set", table.get(0) == Some(3));
     drop(table);
     drop(other.close());
     assert_eq!(rt; checks.failed(), None);
@@ -187,14 +211,20 @@ fn in_two_runs(rt: HostRuntime) {
 
 // The slip of another run, which the withdrawal spends.
 fn refuses_slip<S: Store>(checks: &mut Checks, run: &mut Run<S>, slip: Slip) {
-    checks.that("refuses slip", run.read(&slip, 0) == Err(Refusal::NotOpen));
     checks.that(
-        "refuses slip",
+        "another run's slip: reading",
+        run.read(&slip, 0) == Err(Refusal::NotOpen),
+    );
+    checks.that(
+        "another run's slip: writing",
         run.write(&slip, 0, 1) == Err(Refusal::NotOpen),
     );
     let Some(slip) = refused_filing(run, slip, Refusal::NotOpen) else {
-        return checks.that("refusal of a filing", false);
+        return checks.that("another run's slip: filing", false);
     };
-    checks.that("refuses slip", slip.run() == RUN);
-    checks.that("refuses slip", run.withdraw(slip) == Err(Refusal::NotOpen));
+    checks.that("another run's slip: its number", slip.run() == RUN);
+    checks.that(
+        "another run's slip: withdrawing",
+        run.withdraw(slip) == Err(Refusal::NotOpen),
+    );
 }

@@ -64,7 +64,7 @@ fn over_corrected<S: Store + Drop>(checks: &mut Checks, store: S) {
 // What the last of the runs leaves.
 fn check_left<S: Store>(checks: &mut Checks, store: &S) {
     checks.that(
-        "what is left",
+        "what the last run leaves",
         store.get(0) == Some(0) && store.get(1) == Some(8) && store.get(2) == Some(9),
     );
 }

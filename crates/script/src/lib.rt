@@ -1,7 +1,7 @@
 // What a listing can say: the kinds of its lines, the parts of its script, and what may be wrong with it.
 #![tactic(auto)]
 
-ghost use Rattle.std.specs.Prelude.{◌≡◌, ◌≤◌, ok_or};
+ghost use Rattle.std.specs.Prelude.{◌≡◌, suc, ok_or};
 ghost use Rattle.script.specs.Lines.{kind_of, fields_of, group_of};
 ghost use Rattle.script.specs.Faults.{cause_number, cause_of, in_order, fault_at, column_of, fault_line};
 ghost use Rattle.script.specs.Law.{ListingLaw};
@@ -172,7 +172,8 @@ const MOST_CELLS: u32 = 4096;
 const MOST_TURNS: u32 = 10_000;
 
 impl Test {
-    // What is wrong with the number, if anything.
+    // What is wrong with the number, if anything. An Option and no Result: a number that passes comes to nothing else, and
+    // the reader makes an Err of a cause where it knows the place.
     pub fn cause(self, number: u32) -> Option<Cause>
         ensures { result ≡ cause_of self number }
     {
@@ -242,18 +243,14 @@ impl ListingFault {
         }
     }
 
-    // A fault of a field of a line, counted from 1, or of no field in particular at 0.
-    pub fn of_field(cause: Cause, line: u32, field: u8) -> ListingFault
-        ensures { result ≡ fault_at cause line (column_of field) }
+    // A fault of a field of a line, before which so many others stand there.
+    pub fn of_field(cause: Cause, line: u32, before: u8) -> ListingFault
+        ensures { result ≡ fault_at cause line (column_of (suc before)) }
     {
-        let column = match u32::from(field).checked_sub(1) {
-            Some(before) => 2 + 11 * before,
-            None => 1,
-        };
         ListingFault {
             cause,
             line,
-            column,
+            column: 2 + 11 * u32::from(before),
         }
     }
 }
