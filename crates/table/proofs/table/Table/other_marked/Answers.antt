@@ -1,9 +1,8 @@
 use Rattle.std.proofs.Common.{◌≢◌, ℕ, suc, get_or, drop, length, Some, sym, ap, ◌∙◌, add-one, arith}
-use Rattle.std.proofs.lemmas.List.{length-map}
 use Rattle.job.specs.Jobs.{job_of}
 use Rattle.model.specs.Rules.{other_marked}
 use Rattle.table.specs.States.{jobs_in}
-use Rattle.table.proofs.Tabling.{row_means, other_found, other_next, other_self, other_end}
+use Rattle.table.proofs.Tabling.{row_means, other_found, other_next, other_self}
 use Rattle.table.proofs.table.Table.other_marked.Goals as goal
 use Rattle.table.proofs.table.Table.other_marked.Goals.{else-k-i-via-then-k-i+else-is_marked, else-k-i-via-else-k-i}
 
@@ -33,8 +32,3 @@ loop-k-preserved c =
       | else-k-i-via-else-k-i w ↦ sym (other_self (suc c.args.i) k (jobs_in t) (ap suc w.if-k-i.false))
     ]
     ∙ c.loop-k.invariant
-
-pub returns : goal.returns
-returns c =
-    let t = c.args.self.now in
-    sym (other_end (suc c.args.i) c.loop-k.k (jobs_in t) (omega (arith, c.loop-k-test.false, ap length c.deref-job-items.ensures.0, length-map t.jobs.items job_of))) ∙ c.loop-k.invariant

@@ -7,9 +7,6 @@ use Rattle.table.specs.States.{state_of}
 use Rattle.table.proofs.Rules.{rests, goes, takes, still, at-number}
 use Rattle.table.proofs.table.Table.turn.Goals as goal
 
-pub take_right-requires : goal.take_right-requires
-take_right-requires g c = omega (arith, c.in_ok-i.ensures.1, c.turn_job.ensures.5)
-
 pub commit-requires : goal.commit-requires
 commit-requires g c =
     let C = g.S.Store.cells c.args.store.now in
