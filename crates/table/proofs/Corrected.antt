@@ -1,6 +1,6 @@
 -- From what the table did to the model's calls with a slip.
 use Rattle.std.proofs.Common.{◌≡◌, ℕ, zero, suc, ◌+◌, ◌%◌, ◌^◌, ◌<◌, ◌≤◌, Bool, true, false, cond, List, [], ◌∷◌, ◌++◌, map, length, get_or, set, Some, None, Ok, Err, Result, sym, refl, ap, ◌∙◌, add-one, arith}
-use Rattle.std.proofs.lemmas.List.{length-map, length-set, map-append}
+use Rattle.std.proofs.lemmas.List.{length-map, length-set}
 use Rattle.std.specs.List.{slice_get}
 use Rattle.correction.specs.Calls.{CallOn, Comes, Checked}
 use Rattle.correction.specs.Corrections.{correction_of}
@@ -98,9 +98,6 @@ module _ {A : Type 0} (call : CallOn A) (C : List ℕ) (t : Table) (slip : SlipN
       (ap (λ o. o.next) none, (e ∙ ap Err h.0) ∙ ap (λ o. o.answer) none)
 
 -- One correction more.
-pub opened_more : (xs : List Correction) (c : Correction) (f : CorrectionState) → correction_of c ≡ f → map correction_of (xs ++ c ∷ []) ≡ map correction_of xs ++ f ∷ []
-opened_more xs c f e = map-append correction_of xs (c ∷ []) ∙ ap (λ z. map correction_of xs ++ z ∷ []) e
-
 pub unclosed_more : (xs : List Correction) (c : Correction) → unclosed (xs ++ c ∷ []) ≤ unclosed xs + 1
 unclosed_more [] c = by_bool c.is_open (λ t. rw (t) (omega arith)) (λ t. rw (t) (omega arith))
 unclosed_more (y ∷ ys) c = omega (arith, unclosed_more ys c, weigh y (unclosed ys), weigh y (unclosed (ys ++ c ∷ [])))

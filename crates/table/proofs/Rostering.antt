@@ -1,6 +1,6 @@
 -- What an intake's roster holds, and what becomes of it.
 use Rattle.std.proofs.Common.{◌≡◌, ℕ, ◌^◌, ◌<◌, true, not, eqb, leb, List, [], ◌∷◌, ◌++◌, map, None, refl, ap, ◌∙◌, subst, arith}
-use Rattle.std.proofs.lemmas.List.{length-map, map-append}
+use Rattle.std.proofs.lemmas.List.{length-map}
 use Rattle.std.proofs.lemmas.Bool.{and_parts, and_from, eqb-true, leb-false, not-true}
 use Rattle.job.specs.Jobs.{job_of}
 use Rattle.job.specs.declared.job.Job.{Job}
@@ -73,9 +73,6 @@ all_new_push (x ∷ bs) b e n =
 
 pub still_new : (jobs : List Job) (b : Job) (steps : List Step) → job_of b ≡ new_job steps → all_new jobs ≡ true → all_new (jobs ++ b ∷ []) ≡ true
 still_new jobs b steps e a = all_new_push jobs b a (ap is_new e)
-
-pub programs-push : (jobs : List Job) (b : Job) (steps : List Step) → job_of b ≡ new_job steps → map program_of (jobs ++ b ∷ []) ≡ map program_of jobs ++ steps ∷ []
-programs-push jobs b steps e = map-append program_of jobs (b ∷ []) ∙ ap (λ z. map program_of jobs ++ z.program ∷ []) e
 
 pub room_for : (jobs count : ℕ) (steps : List Step) → admission_fault jobs count steps ≡ None → jobs < 16
 room_for jobs count steps e = omega (arith, leb-false 16 jobs (not_bad (leb 16 jobs) (fault TooManyJobs 0 0) (neither (fault_if (leb 16 jobs) (fault TooManyJobs 0 0)) _ e).0))

@@ -1,6 +1,6 @@
 -- What changes of a table's rows mean.
 use Rattle.std.proofs.Common.{◌≡◌, ℕ, zero, suc, ◌+◌, ◌<◌, ◌≤◌, true, false, cond, List, [], ◌∷◌, map, length, get_or, drop, set, Some, None, Option, sym, refl, ap, ◌∙◌, arith}
-use Rattle.std.proofs.lemmas.List.{map-set, length-set, drop_all, drop-drop}
+use Rattle.std.proofs.lemmas.List.{map-set, length-set, drop-drop}
 use Rattle.std.proofs.lemmas.Bool.{eq-eqb, ne_eqb}
 use Rattle.std.proofs.lemmas.Option.{slice_get-get_or}
 use Rattle.std.specs.List.{slice_get}
@@ -117,6 +117,3 @@ other_self j k bs q =
     go : (xs : List JobState) → other_marked j (suc k) xs ≡ other_marked j (suc (suc k)) (drop 1 xs)
     go [] = refl
     go (b ∷ xs) = by_bool b.marked (λ m. rw (m, eq-eqb (suc k) j q)) (λ m. rw m)
-
-pub other_end : (j k : ℕ) (bs : List JobState) → length bs ≤ k → other_marked j (suc k) (drop k bs) ≡ None
-other_end j k bs h = rw (drop_all k bs h)
