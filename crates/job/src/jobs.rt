@@ -6,12 +6,13 @@ ghost use Rattle.model.specs.declared.Stage.TheVariants.{Done};
 ghost use Rattle.model.specs.declared.Step.TheVariants as step;
 ghost use Rattle.job.specs.Jobs.{job_of};
 ghost use Rattle.job.specs.Moves.{Moves, WriteOf};
+ghost use Rattle.job.specs.Programs.{steps_in};
 ghost use Rattle.job.specs.Shape.{runnable};
 
-use crate::admission::{MOST_STEPS, REGISTERS, admission_fault};
+use crate::admission::{REGISTERS, admission_fault};
 use crate::job::Job;
 use crate::moves::Move;
-use arrayvec::ArrayVec;
+use crate::program::Program;
 use cell_log::{Logs, Lookups};
 use model::{Entry, Fault, Stage, Step};
 use store::Store;
@@ -24,13 +25,13 @@ impl Job {
         if let Some(fault) = admission_fault(jobs, count, steps) {
             return Err(fault);
         }
-        Ok(Job::unstarted(ArrayVec::try_from(steps).unwrap()))
+        Ok(Job::unstarted(Program::new(steps).unwrap()))
     }
 
     // A job with that program, which has not started.
-    fn unstarted(program: ArrayVec<Step, MOST_STEPS>) -> Job
-        requires { runnable program.items ≡ true }
-        ensures { job_of result ≡ new_job program.items }
+    fn unstarted(program: Program) -> Job
+        requires { runnable (steps_in program) ≡ true }
+        ensures { job_of result ≡ new_job (steps_in program) }
     {
         Job {
             program,
@@ -118,8 +119,6 @@ impl Default for Job {
     ghost is_default = { λ b. job_of b ≡ new_job (step.End ∷ []) };
 
     fn default() -> Job {
-        let mut program = ArrayVec::new();
-        program.push(Step::End);
-        Job::unstarted(program)
+        Job::unstarted(Program::new(&[Step::End]).unwrap())
     }
 }

@@ -50,8 +50,8 @@ impl Job {
         ensures { result ≡ step_of (job_of self.now) }
     {
         match self.stage {
-            Stage::At(n) => self.program[n as usize],
-            _ => self.program[0],
+            Stage::At(n) => self.program.steps()[n as usize],
+            _ => self.program.steps()[0],
         }
     }
 
