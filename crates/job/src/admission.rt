@@ -36,7 +36,7 @@ pub fn admission_fault(jobs: usize, count: usize, steps: &[Step]) -> Option<Faul
     first_fault(count, steps).or(fault_if(!last_stops(steps), Refusal::LastStep, last, 0))
 }
 
-// A fault of that step and field, where the test is bad.
+// A fault of that step and field, where the test is bad. The test is made by the caller, who knows by what it is tested.
 fn fault_if(bad: bool, refusal: Refusal, step: u32, field: u32) -> Option<Fault>
     ensures { result ≡ fault_if bad (fault refusal step field) }
 {
@@ -47,7 +47,8 @@ fn fault_if(bad: bool, refusal: Refusal, step: u32, field: u32) -> Option<Fault>
     })
 }
 
-// The first fault of a step, step by step.
+// The first fault of a step, step by step. A loop and no `find_map`: tried, and the proof did not close, since no lemma
+// of the library leads from what `find_map` promises to the list.
 fn first_fault(count: usize, steps: &[Step]) -> Option<Fault>
     requires { length steps.now ≤ 24 }
     ensures { result ≡ steps_fault count (length steps.now) 1 steps.now }
@@ -124,10 +125,7 @@ impl Tests {
 fn last_stops(steps: &[Step]) -> bool
     ensures { result ≡ last_stops steps.now }
 {
-    match steps.last() {
-        Some(step) => stops(*step),
-        None => false,
-    }
+    steps.last().is_some_and(|step| stops(*step))
 }
 
 fn stops(step: Step) -> bool
