@@ -43,7 +43,9 @@ impl Job {
         }
     }
 
-    // Applies the first rule of the job's stage that fits, as far as it changes the job.
+    // Applies the first rule of the job's stage that fits, as far as it changes the job. Each method is told the stage and
+    // the step: see `stages.rt`.
+    #[tactic(auto, using(crate::proofs::Standing::adds, crate::proofs::Standing::subtracts))]
     pub fn turn<S: Store>(&mut self, store: &S, right: Option<u32>) -> Move
         ensures { Moves (S.Store.cells store.now) right (job_of self.old) (job_of self.new) result }
     {

@@ -1,6 +1,4 @@
-use Rattle.std.proofs.Common.{sym, ◌∙◌}
-use Rattle.model.specs.declared.Step.TheVariants.{Add, Subtract}
-use Rattle.job.proofs.Standing.{standing}
+use Rattle.std.proofs.Common.{◌∙◌}
 use Rattle.job.proofs.job.Job.turn.Goals as goal
 
 pub returns-in-Start-default-default : goal.returns-in-Start-default-default
@@ -23,26 +21,6 @@ returns-in-Rollback-default-default g c = c.to_start.ensures (g.S.Store.cells c.
 
 pub returns-in-At-End-None : goal.returns-in-At-End-None
 returns-in-At-End-None g c = λ s j hc hr. c.end.ensures (g.S.Store.cells c.args.store.now) s j hc (hr ∙ c.in-At-End-None.is-2)
-
-pub at-requires : goal.at-requires
-at-requires g c =
-    let k = c.in-At-Add-default in
-    (standing c.args.self.now k.n (Add k.register k.other) k.is-0 (sym c.step.ensures ∙ k.is-1)).registers.0
-
-pub at-requires-in-At-Add-default : goal.at-requires-in-At-Add-default
-at-requires-in-At-Add-default g c =
-    let k = c.in-At-Add-default in
-    (standing c.args.self.now k.n (Add k.register k.other) k.is-0 (sym c.step.ensures ∙ k.is-1)).registers.1
-
-pub at-requires-in-At-Subtract-default : goal.at-requires-in-At-Subtract-default
-at-requires-in-At-Subtract-default g c =
-    let k = c.in-At-Subtract-default in
-    (standing c.args.self.now k.n (Subtract k.register k.other) k.is-0 (sym c.step.ensures ∙ k.is-1)).registers.0
-
-pub at-requires-in-At-Subtract-default-2 : goal.at-requires-in-At-Subtract-default-2
-at-requires-in-At-Subtract-default-2 g c =
-    let k = c.in-At-Subtract-default in
-    (standing c.args.self.now k.n (Subtract k.register k.other) k.is-0 (sym c.step.ensures ∙ k.is-1)).registers.1
 
 pub returns-in-At-Load-default : goal.returns-in-At-Load-default
 returns-in-At-Load-default g c = c.put.ensures (g.S.Store.cells c.args.store.now) c.args.right
