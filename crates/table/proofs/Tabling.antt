@@ -1,9 +1,11 @@
 -- What changes of a table's rows mean.
-use Rattle.std.proofs.Common.{◌≡◌, ℕ, zero, suc, ◌+◌, ◌<◌, ◌≤◌, true, false, cond, List, [], ◌∷◌, map, length, get_or, drop, set, Some, None, Option, sym, refl, ap, ◌∙◌, arith}
-use Rattle.std.proofs.lemmas.List.{map-set, length-set, drop-drop}
-use Rattle.std.proofs.lemmas.Bool.{eq-eqb, ne_eqb}
+use Rattle.std.proofs.Common.{◌≡◌, Bor, ℕ, zero, suc, ◌+◌, ◌<◌, ◌≤◌, true, false, not, ◌&&◌, eqb, cond, Bool, List, [], ◌∷◌, map, length, get_or, set, Some, None, Option, sym, refl, ap, ◌∙◌, arith}
+use Prim.Native.Nat.compare
+use lib.Dec.{compare_is_eq}
+use Rattle.std.proofs.lemmas.List.{map-set, length-set}
 use Rattle.std.proofs.lemmas.Option.{slice_get-get_or}
-use Rattle.std.specs.List.{slice_get}
+use Rattle.std.specs.List.{slice_get, find, enumerate_from}
+use Rattle.std.specs.Option.{option_map}
 use Rattle.arrayvec.specs.ArrayVec.{ArrayVec, with_items}
 use Rattle.arrayvec.proofs.ArrayVecLemmas.{items-with_items}
 use Rattle.job.specs.Jobs.{job_of}
@@ -97,23 +99,18 @@ module _ (t : Table) (xs : List Job) (i : ℕ) (d : Job) (shown : xs ≡ t.jobs.
         (length t.order.items + 1) + (unfinished (with_row t xs i b') + unclosed t.corrections.items) ≤ length (with_row t xs i b') + length t.corrections.items
     room_used b' e = omega (arith, t.room, counts b', as_many b', ap {B = ℕ} (λ z. cond z 0 1) e, ap {B = ℕ} (λ z. cond z 0 1) not_yet)
 
--- Other marked jobs, from place k on.
-drop_nth : (bs : List JobState) (k : ℕ) (b : JobState) → slice_get bs k ≡ Some b → drop k bs ≡ b ∷ drop (suc k) bs
-drop_nth [] k b e = zero_one (cc)
-drop_nth (x ∷ bs) zero b e = let q : x ≡ b = cc in ap (λ y. y ∷ bs) q
-drop_nth (x ∷ bs) (suc k) b e = drop_nth bs k b e
+-- The lowest marked job but the one at place i, as it is found among the jobs with their places.
+abbrev pub beside : ℕ → ℕ × Job → Bool
+beside i p = p.1.marked && not (eqb p.0 i)
 
-pub other_found : (j k : ℕ) (bs : List JobState) (b : JobState) → slice_get bs k ≡ Some b → b.marked ≡ true → (suc k ≡ j → ⊥) → other_marked j (suc k) (drop k bs) ≡ Some (suc k)
-other_found j k bs b e m n = rw (drop_nth bs k b e, m, ne_eqb (suc k) j n)
-
-pub other_next : (j k : ℕ) (bs : List JobState) (b : JobState) → slice_get bs k ≡ Some b → b.marked ≡ false → other_marked j (suc k) (drop k bs) ≡ other_marked j (suc (suc k)) (drop (suc k) bs)
-other_next j k bs b e m = rw (drop_nth bs k b e, m)
-
-pub other_self : (j k : ℕ) (bs : List JobState) → suc k ≡ j → other_marked j (suc k) (drop k bs) ≡ other_marked j (suc (suc k)) (drop (suc k) bs)
-other_self j k bs q =
+pub other-found : (i k : ℕ) (xs : List Job) → other_marked (suc i) (suc k) (map job_of xs) ≡ option_map (λ p. suc p.0) (find (beside i) (enumerate_from k xs))
+other-found i k [] = refl
+other-found i k (x ∷ xs) =
     let e : k + 1 ≡ suc k = omega arith in
-    go (drop k bs) ∙ ap (other_marked j (suc (suc k))) (drop-drop 1 k bs ∙ ap (λ (n : ℕ). drop n bs) e)
-  where
-    go : (xs : List JobState) → other_marked j (suc k) xs ≡ other_marked j (suc (suc k)) (drop 1 xs)
-    go [] = refl
-    go (b ∷ xs) = by_bool b.marked (λ m. rw (m, eq-eqb (suc k) j q)) (λ m. rw m)
+    let later = other-found i (suc k) xs ∙ ap (λ (n : ℕ). option_map (λ p. suc p.0) (find (beside i) (enumerate_from n xs))) (sym e) in
+    ap (λ t. cond (x.marked && not t) (Some (suc k)) (other_marked (suc i) (suc (suc k)) (map job_of xs))) (ap compare_is_eq (compare.suc-suc k i))
+    ∙ by_bool (beside i (k, x)) (λ t. rw (t) refl) (λ t. rw (t) later)
+
+pub other-read : (i : ℕ) (xs : List Job) (r : Option (ℕ × Bor Job)) → option_map (λ p. (p.0, p.1.now)) r ≡ find (beside i) (enumerate_from 0 xs) → option_map (λ p. suc p.0) r ≡ other_marked (suc i) 1 (map job_of xs)
+other-read i xs None e = ap (option_map (λ (p : ℕ × Job). suc p.0)) e ∙ sym (other-found i 0 xs)
+other-read i xs (Some p) e = ap (option_map (λ (p : ℕ × Job). suc p.0)) e ∙ sym (other-found i 0 xs)

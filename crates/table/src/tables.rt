@@ -55,12 +55,9 @@ impl Table {
     pub(crate) fn other_marked(&self, i: usize) -> Option<u32>
         ensures { result ≡ other_marked (suc i) 1 (jobs_in self.now) }
     {
-        for (k, job) in self.jobs.iter().enumerate() {
-            if k != i && job.is_marked() {
-                return Some(k as u32 + 1);
-            }
-        }
-        None
+        let mut jobs = self.jobs.iter().enumerate();
+        let (place, _) = jobs.find(|(k, job)| job.is_marked() && *k != i)?;
+        Some(place as u32 + 1)
     }
 
     // Removes the mark of a job, by its number.
