@@ -1,6 +1,7 @@
 -- From what the table did to the model's turn.
-use Rattle.std.proofs.Common.{◌≡◌, ℕ, suc, List, set, Some, None, Ok, Err, sym, ap, ◌∙◌, subst}
+use Rattle.std.proofs.Common.{◌≡◌, ℕ, suc, List, set, Some, None, Ok, Err, sym, refl, ap, ◌∙◌, subst}
 use Rattle.job.specs.Moves.{Comes, WriteOf}
+use Rattle.job.specs.declared.moves.Move.{Move}
 use Rattle.job.specs.declared.moves.Move.TheVariants.{NoRule, Applies, Takes, Commits}
 use Rattle.model.specs.Calls.{Turned, named, apply, turn, turn_of}
 use Rattle.model.specs.Logs.{at, find, value_in}
@@ -11,7 +12,8 @@ use Rattle.model.specs.declared.Refusal.TheVariants.{NoSuchJob}
 use Rattle.model.specs.declared.Rule.{Rule}
 use Rattle.model.specs.declared.Rule.TheVariants.{V3, C1, C2, C3}
 use Rattle.model.specs.declared.Stage.TheVariants.{Commit}
-use Rattle.table.specs.States.{with_right, with_setting, with_joined}
+use Rattle.table.specs.declared.table.Table.{Table}
+use Rattle.table.specs.States.{state_of, JobTurns, with_right, with_setting, with_joined}
 use Rattle.table.proofs.Tabling.{with_same}
 
 -- A turn of job j in run s leaves s' and answers a.
@@ -59,9 +61,30 @@ module _ (s s' : State) (i : ℕ) (b : JobState) (here : at s.jobs (suc i) ≡ S
     pub c3 : (b' : JobState) → None ≡ other_marked (suc i) 1 s.jobs → WriteOf b b' None → s' ≡ with_joined s (suc i) b → TurnIs s (suc i) s' (Ok (Some (record { rule = C3; cell = None })))
     c3 b' f x e = by-fit C3 0 (rw (st, ← f, x.0)) e
 
--- Where the job's number is a place and one.
-pub at-number : (s s' : State) (job i : ℕ) (a : Turned) → job ≡ suc i → TurnIs s (suc i) s' a → TurnIs s job s' a
-at-number s s' job i a e x = subst (λ j. TurnIs s j s' a) (sym e) x
+-- What a job's turn makes of run s, which is s' after it, by its move: the whole turn, or what is left for the run to do.
+abbrev pub Moved : State → State → ℕ → ℕ → Move → Type 0
+Moved s s' job i NoRule = TurnIs s job s' (Ok None)
+Moved s s' job i (Applies a) = TurnIs s job s' (Ok (Some a))
+Moved s s' job i Takes = (next : State) → next ≡ with_right s' (suc i) → TurnIs s job next (Ok (Some (record { rule = V3; cell = None })))
+Moved s s' job i Commits =
+    ((b : JobState) × (at s'.jobs (suc i) ≡ Some b) × (b.stage ≡ Commit)) × ((next : State) (a : Turned) → TurnIs s' (suc i) next a → TurnIs s job next a)
+
+pub moved : (C : List ℕ) (t t' : Table) (job i : ℕ) (m known : Move) → job ≡ suc i → m ≡ known → JobTurns C t t' i m → Moved (state_of C t) (state_of C t') job i known
+moved C t t' job i m known numbered is w = subst (λ j. Moved s s' j i known) (sym numbered) (by known (subst (Comes s (suc i) w.0 w.1) is (w.4 s (suc i) refl refl)))
+  where
+    s : State
+    s = state_of C t
+
+    s' : State
+    s' = state_of C t'
+
+    by : (m : Move) → Comes s (suc i) w.0 w.1 m → Moved s s' (suc i) i m
+    by NoRule x = rests s s' i w.0 w.2 w.1 (w.3 C) x
+    by (Applies a) x = goes s s' i w.0 w.2 w.1 a (w.3 C) x
+    by Takes x = λ next e. takes s next i w.0 w.2 w.1 s' (w.3 C) e x
+    by Commits x =
+        let kept = still s s' i w.0 w.2 w.1 (w.3 C) x in
+        ((w.0, ap (λ z. at z.jobs (suc i)) kept ∙ w.2, x.1), λ next a y. subst (λ z. TurnIs z (suc i) next a) kept y)
 
 -- A job by its number is one job.
 pub same_job : (s : State) (i : ℕ) (a b : JobState) → at s.jobs (suc i) ≡ Some a → at s.jobs (suc i) ≡ Some b → a ≡ b

@@ -18,6 +18,7 @@ use Rattle.model.specs.Logs.{at}
 use Rattle.model.specs.declared.Entry.{Entry}
 use Rattle.model.specs.Rules.{JobState, State, with_job, other_marked}
 use Rattle.model.proofs.Basics.{by_bool, by_cond, zero_one, put-again, at-map-to}
+use Rattle.table.specs.States.{jobs_in}
 use Rattle.table.specs.Shape.{unfinished, unclosed}
 use Rattle.table.specs.declared.table.Table.{Table}
 
@@ -98,6 +99,13 @@ module _ (t : Table) (xs : List Job) (i : ℕ) (d : Job) (shown : xs ≡ t.jobs.
     pub room_used : (b' : Job) → is_done b'.stage ≡ true →
         (length t.order.items + 1) + (unfinished (with_row t xs i b') + unclosed t.corrections.items) ≤ length (with_row t xs i b') + length t.corrections.items
     room_used b' e = omega (arith, t.room, counts b', as_many b', ap {B = ℕ} (λ z. cond z 0 1) e, ap {B = ℕ} (λ z. cond z 0 1) not_yet)
+
+some_same : {A : Type 0} {x y : A} → Some x ≡ Some y → x ≡ y
+some_same e = cc
+
+-- The job at the place has not committed.
+pub not_yet : (t : Table) (xs : List Job) (i : ℕ) (d : Job) → xs ≡ t.jobs.items → i < length t.jobs.items → (s : JobState) × (at (jobs_in t) (suc i) ≡ Some s) × (is_done s.stage ≡ false) → is_done (get_or xs i d).stage ≡ false
+not_yet t xs i d shown within x = sym (ap (λ z. is_done z.stage) (some_same (sym x.1 ∙ row_means job_of t.jobs xs i d shown within))) ∙ x.2
 
 -- The lowest marked job but the one at place i, as it is found among the jobs with their places.
 abbrev pub beside : ℕ → ℕ × Job → Bool

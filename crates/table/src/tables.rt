@@ -70,6 +70,7 @@ impl Table {
     }
 
     // Takes the lowest entry out of the write log of the job at a place, and counts the setting.
+    #[tactic(auto, using(crate::proofs::Tabling::room_kept, crate::proofs::Tabling::as_many, crate::proofs::Tabling::done_write))]
     pub(crate) fn take_write(&mut self, i: usize) -> Option<Entry>
         requires { i < array_vec_len self.old.jobs }
         ensures { WriteTaken self.old self.new i result }

@@ -1,21 +1,10 @@
-use Rattle.std.proofs.Common.{◌≡◌, ℕ, suc, false, [], ◌∷◌, ◌++◌, List, length, ◌<◌, get_or, Some, None, sym, ap, ◌∙◌, add-one, arith}
+use Rattle.std.proofs.Common.{ℕ, [], ◌∷◌, ◌++◌, get_or, None, ap, ◌∙◌, add-one, arith}
 use Rattle.job.specs.Jobs.{job_of}
 use Rattle.job.specs.Shape.{is_done}
-use Rattle.job.specs.declared.job.Job as row
-use Rattle.model.specs.Logs.{at}
-use Rattle.model.specs.Rules.{JobState}
 use Rattle.model.specs.declared.Party.TheVariants.{Job}
-use Rattle.table.specs.States.{jobs_in, state_of, done}
-use Rattle.table.specs.declared.table.Table.{Table}
-use Rattle.table.proofs.Tabling.{row_means, row_becomes, as_many, room_left, room_used}
+use Rattle.table.specs.States.{state_of, done}
+use Rattle.table.proofs.Tabling.{row_means, row_becomes, as_many, room_left, room_used, not_yet}
 use Rattle.table.proofs.table.Table.finish.Goals as goal
-
-some_same : {A : Type 0} {x y : A} → Some x ≡ Some y → x ≡ y
-some_same e = cc
-
--- The job at the place has not committed.
-not_yet : (t : Table) (xs : List row.Job) (i : ℕ) (d : row.Job) → xs ≡ t.jobs.items → i < length t.jobs.items → (s : JobState) × (at (jobs_in t) (suc i) ≡ Some s) × (is_done s.stage ≡ false) → is_done (get_or xs i d).stage ≡ false
-not_yet t xs i d shown within x = sym (ap (λ z. is_done z.stage) (some_same (sym x.1 ∙ row_means job_of t.jobs xs i d shown within))) ∙ x.2
 
 pub push-requires : goal.push-requires
 push-requires c =

@@ -1,34 +1,10 @@
-use Rattle.std.proofs.Common.{suc, get_or, sym, refl, ap, ◌∙◌, subst, arith}
+use Rattle.std.proofs.Common.{suc, get_or, sym, refl, ap, ◌∙◌, subst}
 use Rattle.job.specs.Jobs.{job_of}
 use Rattle.job.specs.Moves.{WriteOf}
-use Rattle.model.specs.Rules.{counted}
+use Rattle.model.specs.Rules.{counted, with_jobs}
 use Rattle.table.specs.States.{state_of, after_taking}
-use Rattle.table.proofs.Tabling.{row_means, row_becomes, as_many, room_kept, done_write, with_same}
+use Rattle.table.proofs.Tabling.{row_means, row_becomes, as_many, with_same}
 use Rattle.table.proofs.table.Table.take_write.Goals as goal
-
-pub invariant_of-self : goal.invariant_of-self
-invariant_of-self c =
-    let t = c.args.self.now in
-    let xs = c.deref_mut.result.now in
-    let d = c.index-deref_mut-i.result in
-    let b' = c.take_write.new.self in
-    record {
-      room = room_kept t xs c.args.i d c.deref_mut.ensures.value c.requires b' (done_write (get_or xs c.args.i d) b' c.take_write.result c.take_write.ensures);
-      few_jobs = omega (arith, t.few_jobs, as_many t xs c.args.i d c.deref_mut.ensures.value c.requires b');
-      few_corrections = t.few_corrections;
-    }
-
-pub invariant_of-self-2 : goal.invariant_of-self-2
-invariant_of-self-2 c =
-    let t = c.args.self.now in
-    let xs = c.deref_mut.result.now in
-    let d = c.index-deref_mut-i.result in
-    let b' = c.take_write.new.self in
-    record {
-      room = room_kept t xs c.args.i d c.deref_mut.ensures.value c.requires b' (done_write (get_or xs c.args.i d) b' c.take_write.result c.take_write.ensures);
-      few_jobs = omega (arith, t.few_jobs, as_many t xs c.args.i d c.deref_mut.ensures.value c.requires b');
-      few_corrections = t.few_corrections;
-    }
 
 pub returns-in_err-entry : goal.returns-in_err-entry
 returns-in_err-entry c =
@@ -46,7 +22,7 @@ returns-in_err-entry c =
       h,
       subst (WriteOf b b) (sym c.from_residual.ensures) (none.0, refl),
       (λ C.
-          (λ n. record { number = t.number; cells = C; jobs = e n; corrections = (state_of C t).corrections; right = t.right; order = (state_of C t).order; takings = t.takings; settings = t.settings })
+          ap (with_jobs (state_of C t)) e
           ∙ (with_same (state_of C t) i b h ∙ ap (after_taking (state_of C t) (suc i) b) (sym c.from_residual.ensures))),
       as_many t xs i d c.deref_mut.ensures.value c.requires b',
     )

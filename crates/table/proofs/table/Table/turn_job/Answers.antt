@@ -1,5 +1,6 @@
-use Rattle.std.proofs.Common.{get_or, refl, arith}
+use Rattle.std.proofs.Common.{get_or, refl, ap, arith}
 use Rattle.job.specs.Jobs.{job_of}
+use Rattle.model.specs.Rules.{with_jobs}
 use Rattle.table.specs.States.{state_of}
 use Rattle.table.proofs.Tabling.{row_means, row_becomes, as_many, room_kept, same_done}
 use Rattle.table.proofs.table.Table.turn_job.Goals as goal
@@ -27,7 +28,7 @@ returns g c =
       job_of (get_or xs c.args.i d),
       job_of b',
       row_means job_of t.jobs xs c.args.i d c.deref_mut.ensures.value c.requires,
-      (λ C n. record { number = t.number; cells = C; jobs = e n; corrections = (state_of C t).corrections; right = t.right; order = (state_of C t).order; takings = t.takings; settings = t.settings }),
+      (λ C. ap (with_jobs (state_of C t)) e),
       c.turn.ensures,
       as_many t xs c.args.i d c.deref_mut.ensures.value c.requires b',
     )
