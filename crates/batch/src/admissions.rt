@@ -2,7 +2,7 @@ ghost use Rattle.std.specs.Prelude.{◌≡◌, map};
 ghost use Rattle.listing_reader.specs.Drafts.{steps_in};
 ghost use Rattle.batch.specs.Runs.{admit_all, intake_in};
 
-use listing_reader::program::Program;
+use job::program::Program;
 use run::intake::Intake;
 use store::Store;
 

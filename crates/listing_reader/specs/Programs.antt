@@ -1,12 +1,8 @@
--- What a program and the lists of a script in memory mean. Assumes nothing.
-use Rattle.std.specs.Prelude.{ℕ, List, map, vec_items}
-use Rattle.model.specs.declared.Step.{Step}
+-- What the lists of a script in memory mean. Assumes nothing.
+use Rattle.std.specs.Prelude.{ℕ, map, vec_items}
 use Rattle.script.specs.Scripts.{Script}
 use Rattle.listing_reader.specs.declared.lists.Lists.{Lists}
-use Rattle.listing_reader.specs.declared.program.Program.{Program}
-
-abbrev pub steps_in : Program → List Step
-steps_in p = p.steps.items
+pub use Rattle.job.specs.Programs.{steps_in}
 
 -- The script of so many cells with these lists.
 abbrev pub script_with : ℕ → Lists → Script

@@ -5,8 +5,8 @@ ghost use Rattle.script.specs.declared.Cause.TheVariants.{Admission};
 ghost use Rattle.listing_reader.specs.Drafts.{progress_of, Reads};
 
 use crate::draft::Draft;
-use crate::program::Program;
 use job::admission::admission_fault;
+use job::program::Program;
 use model::Fault;
 use script::{Cause, ListingFault, Section};
 

@@ -29,9 +29,8 @@ impl<'a> Reader<'a> {
         ensures bytes { self.new.bytes.now ≡ self.old.bytes.now }
     {
         let number = self.place.line;
-        match self.next_bytes() {
-            Some(bytes) => line_from(bytes, section, number),
-            None => Err(ListingFault::of_line(Cause::Shape, number)),
-        }
+        let unclosed = ListingFault::of_line(Cause::Shape, number);
+        let bytes = self.next_bytes().ok_or(unclosed)?;
+        line_from(bytes, section, number)
     }
 }

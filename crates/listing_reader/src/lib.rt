@@ -12,8 +12,6 @@ mod lines;
 mod lists;
 mod numbers;
 mod place;
-pub mod program;
-mod programs;
 pub mod read;
 mod reader;
 pub mod room;

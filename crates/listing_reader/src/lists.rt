@@ -1,6 +1,6 @@
 ghost use Rattle.std.specs.Prelude.{◌≤◌, vec_capacity};
 
-use crate::program::Program;
+use job::program::Program;
 use script::{Allotment, Preset};
 
 // The lists of a script, with memory for those of every listing.

@@ -30,9 +30,7 @@ impl FieldPlace {
     pub(crate) fn number(self, field: &[u8], test: Test) -> Result<u32, ListingFault>
         ensures { result ≡ read_number test (number_of field.now) self.line self.k }
     {
-        let Some(number) = number_in(field) else {
-            return Err(self.fault(Cause::NotANumber));
-        };
+        let number = number_in(field).ok_or(self.fault(Cause::NotANumber))?;
         match test.cause(number) {
             Some(cause) => Err(self.fault(cause)),
             None => Ok(number),

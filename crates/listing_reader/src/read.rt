@@ -66,7 +66,8 @@ pub fn read(room: Room, listing: &[u8]) -> Result<Script, ListingFault>
         bytes: listing,
         place: Place { at: 0, line: 1 },
     };
-    // Line by line, by the place of the reader: that is the form that reading a listing has here.
+    // A loop and no iterator of lines, which would need the draft: how a line is read depends on the section that the
+    // lines before it left there.
     while reader.place.at < listing.len() {
         draft.take_line(&mut reader)?;
     }

@@ -1,8 +1,8 @@
 ghost use Rattle.std.specs.Prelude.{◌≡◌, map};
 ghost use Rattle.listing_reader.specs.Drafts.{steps_in, script_in};
 
-use crate::program::Program;
 use crate::script_read::Script;
+use job::program::Program;
 use script::{Allotment, Preset};
 
 impl Script {

@@ -27,7 +27,7 @@ pub enum Line {
 }
 
 // !: what is wrong with a listing, by its number, and the line and column where it stands, without the closing newline.
-// The enum of what can be wrong belongs to a crate above this one, which has its number.
+// A number and no enum: that of what can be wrong belongs to a crate above, and a type here would say it a second time.
 #[derive(Clone, Copy, Debug, PartialEq)]
 pub struct FaultLine {
     pub number: u32,

@@ -9,7 +9,7 @@ impl Checks {
         Checks { failed: None }
     }
 
-    // Keeps the name of a check that does not hold, if it is the first.
+    // Keeps the name of a check that does not hold, if it is the first. A flag, since the caller has made the test.
     pub(crate) fn that(&mut self, name: &'static str, holds: bool) {
         if !holds && self.failed.is_none() {
             self.failed = Some(name);

@@ -33,7 +33,7 @@ impl Table {
         }
     }
 
-    // The turn of a job that holds the commit right.
+    // The turn of a job that holds the commit right. Why its place is told: see `tables.rt`.
     fn commit<S: Store>(&mut self, store: &mut S, i: usize) -> Applied
         requires place { i < array_vec_len self.old.jobs }
         requires stage { (b : JobState) × (at (jobs_in self.old) (suc i) ≡ Some b) × (b.stage ≡ Commit) }
