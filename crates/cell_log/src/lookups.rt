@@ -46,7 +46,8 @@ pub trait Lookups {
         self.entries().first().map(|e| e.cell)
     }
 
-    // The lowest cell whose number here still is its number in the store.
+    // The lowest cell whose number here still is its number in the store. Two lookups, this and the next: each promises the
+    // definition of its own rule, and one for both would promise the two of them by a flag.
     final fn lowest_current<S: Store>(&self, store: &S) -> Option<u32>
         ensures { result ≡ lowest (current (S.Store.cells store.now)) (list self.now) }
     {

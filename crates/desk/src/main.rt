@@ -171,10 +171,12 @@ fn print_run<S: Store>(rt: &impl Print, run: &mut Run<S>, jobs: [u32; 2]) -> io:
 // The whole run; gives the store back.
 fn run_over<S: Store>(rt: &impl Print, store: S) -> (S, io::Result<()>) {
     let mut intake = Intake::new(store, RUN);
-    let first = intake.admit(&PROGRAM).unwrap_or(0);
-    let second = intake.admit(&PROGRAM).unwrap_or(0);
+    let jobs = [intake.admit(&PROGRAM), intake.admit(&PROGRAM)];
     let mut run = intake.seal();
-    let printed = print_run(rt, &mut run, [first, second]);
+    let printed = match jobs {
+        [Ok(first), Ok(second)] => print_run(rt, &mut run, [first, second]),
+        _ => rt.println("a job is not admitted"),
+    };
     (run.close(), printed)
 }
 

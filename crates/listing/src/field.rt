@@ -3,9 +3,10 @@ ghost use Rattle.report.specs.Text as text;
 ghost use Rattle.listing.specs.Columns.{left_of, value_from};
 
 // How many columns a field has.
-const COLUMNS: usize = 11;
+pub const COLUMNS: usize = 11;
 
-// The number in a field, if the field is exactly what that number is written as.
+// The number in a field, if the field is exactly what that number is written as. By hand, since what parses a number
+// takes other texts too, with a sign or with zeros before it.
 pub fn number_in(field: &[u8]) -> Option<u32>
     ensures { MatchOption result ((n : ℕ) → n < 2 ^ 32 → field.now ≢ text.field n) (λ n. field.now ≡ text.field n) }
 {
@@ -33,6 +34,7 @@ fn shows(field: &[u8], number: u32) -> bool
     if field[10] != b'0' + (number % 10) as u8 {
         return false;
     }
+    // A loop and no `all`: what is left of the number changes from column to column.
     let mut rest = number / 10;
     for column in field[..10].iter().rev() {
         if *column != left_of(rest) {

@@ -10,13 +10,10 @@ use script::{Cause, Kind, ListingFault, Section};
 fn line_from<'a>(bytes: &'a [u8], section: Section, number: u32) -> Result<Line<'a>, ListingFault>
     ensures { Headed bytes.now section number result }
 {
-    let Some((&letter, fields)) = bytes.split_first() else {
-        return Err(ListingFault::of_line(Cause::Shape, number));
-    };
+    let shape = ListingFault::of_line(Cause::Shape, number);
+    let (&letter, fields) = bytes.split_first().ok_or(shape)?;
     match Kind::try_from(char::from(letter)) {
-        Ok(kind) if section.admits(kind.group()) => {
-            line_of(kind, fields).ok_or(ListingFault::of_line(Cause::Shape, number))
-        }
+        Ok(kind) if section.admits(kind.group()) => line_of(kind, fields).ok_or(shape),
         _ => Err(ListingFault::of_line(Cause::Letter, number)),
     }
 }

@@ -3,10 +3,8 @@ ghost use Rattle.script.specs.Faults.{field_at};
 ghost use Rattle.listing_reader.specs.Parts.{Found};
 
 use crate::line::Line;
+use listing::field::COLUMNS;
 use script::Kind;
-
-// How many columns a field has.
-const COLUMNS: usize = 11;
 
 // Field k of a line, counted from 0.
 fn field<'a>(fields: &'a [u8], k: usize) -> &'a [u8]

@@ -18,10 +18,9 @@ const MOST_BYTES: usize = 65_536;
 fn is_step(letter: Option<char>) -> bool
     ensures { result ≡ is_step_letter letter }
 {
-    let Some(letter) = letter else {
-        return false;
-    };
-    Kind::try_from(letter).is_ok_and(|kind| kind.group() == Group::OfStep)
+    letter.is_some_and(|letter| {
+        Kind::try_from(letter).is_ok_and(|kind| kind.group() == Group::OfStep)
+    })
 }
 
 impl Draft {

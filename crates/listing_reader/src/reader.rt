@@ -45,7 +45,8 @@ fn line_end(bytes: &[u8]) -> Option<usize>
 }
 
 impl<'a> Reader<'a> {
-    // The letter of the next line. The place is put back on every way out.
+    // The letter of the next line. The place is put back on every way out, by a guard: one letter is read as any other is,
+    // with the place moving past it.
     pub(crate) fn peek_letter(&mut self) -> Option<char>
         ensures place { self.new.place ≡ self.old.place }
         ensures bytes { self.new.bytes.now ≡ self.old.bytes.now }

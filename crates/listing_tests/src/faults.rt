@@ -222,6 +222,8 @@ const JOBS: [Case; 13] = [
     },
 ];
 
+// Three tests alike, over their own cases: a function for all would need the bound `Abort`, which no function here has
+// but the one that compares.
 #[test]
 fn lines_fail(rt: HostRuntime) -> Result<(), Fail> {
     for case in &LINES {

@@ -55,11 +55,7 @@ fn rounds<S: Store>(run: &mut Run<S>) {
 }
 
 fn round<S: Store>(run: &mut Run<S>) -> bool {
-    let mut applied = false;
-    for job in 1..=ADDERS {
-        applied |= matches!(run.turn(job), Ok(Some(_)));
-    }
-    applied
+    (1..=ADDERS).fold(false, |applied, job| matches!(run.turn(job), Ok(Some(_))) || applied)
 }
 
 fn stands<S: Store>(run: &Run<S>, job: u32) -> bool {

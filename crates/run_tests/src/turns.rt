@@ -12,20 +12,11 @@ pub(crate) fn settled_turns<S: Store>(run: &mut Run<S>, job: u32) -> u32 {
 
 // Gives a job at most so many turns, and tells how many applied a rule.
 pub(crate) fn turns<S: Store>(run: &mut Run<S>, job: u32, most: u32) -> u32 {
-    for turns in 0..most {
-        if !matches!(run.turn(job), Ok(Some(_))) {
-            return turns;
-        }
-    }
-    most
+    let stop = (0..most).find(|_| !matches!(run.turn(job), Ok(Some(_))));
+    stop.unwrap_or(most)
 }
 
 // Gives a job turns until it takes the right.
 pub(crate) fn takes_right<S: Store>(run: &mut Run<S>, job: u32) -> bool {
-    for _ in 0..MOST_TURNS {
-        if let Ok(Some(Applied { rule: Rule::V3, .. })) = run.turn(job) {
-            return true;
-        }
-    }
-    false
+    (0..MOST_TURNS).any(|_| matches!(run.turn(job), Ok(Some(Applied { rule: Rule::V3, .. }))))
 }

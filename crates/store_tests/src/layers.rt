@@ -51,7 +51,8 @@ fn over_change_list(rt: HostRuntime) {
 }
 
 // Drives two layers over a store, and says whether they, and the store once they are taken apart, hold what plain
-// numbers do. More than 32 different cells are set, so that cells are set below at both levels.
+// numbers do. More than 32 different cells are set, so that cells are set below at both levels. A flag, here and below,
+// since the test that asserts it has no more to tell.
 fn two_layers<S: Store + Drop>(below: S) -> bool {
     let mut numbers = [0; CELLS];
     let mut top = WriteBack::new(WriteBack::new(below));

@@ -34,10 +34,10 @@ impl Table {
     fn place_by(&self, slip: SlipNumbers) -> Result<usize, Refusal>
         ensures { Finds self.now (numbers slip) result }
     {
-        match (slip.correction as usize).checked_sub(1) {
-            Some(i) if slip.run == self.number && i < self.corrections.len() => Ok(i),
-            _ => Err(Refusal::NotOpen),
-        }
+        let place = (slip.correction as usize).checked_sub(1);
+        place
+            .filter(|i| slip.run == self.number && *i < self.corrections.len())
+            .ok_or(Refusal::NotOpen)
     }
 
     // Reads a cell for the correction of a slip.

@@ -28,10 +28,8 @@ impl Table {
     pub(crate) fn place_of(&self, job: u32) -> Result<usize, Refusal>
         ensures { MatchResult result (λ i. (job ≡ suc i) × (i < array_vec_len self.now.jobs)) (λ refusal. (refusal ≡ NoSuchJob) × (at (jobs_in self.now) job ≡ None)) }
     {
-        match (job as usize).checked_sub(1) {
-            Some(i) if i < self.jobs.len() => Ok(i),
-            _ => Err(Refusal::NoSuchJob),
-        }
+        let place = (job as usize).checked_sub(1);
+        place.filter(|i| *i < self.jobs.len()).ok_or(Refusal::NoSuchJob)
     }
 
     // The turn of the job at a place, as far as it changes the job.

@@ -36,6 +36,7 @@ impl Held {
         ensures after { held_in self.new ≡ remaining (held_in self.old) cell }
         ensures room { full (held_in self.new) cell ≡ false }
     {
+        // An `if` and no `then`: tried, and the proof did not close.
         if self.is_full(cell) {
             Some(self.changes.remove(0))
         } else {
