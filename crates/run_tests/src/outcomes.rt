@@ -55,7 +55,10 @@ fn rounds<S: Store>(run: &mut Run<S>) {
 }
 
 fn round<S: Store>(run: &mut Run<S>) -> bool {
-    (1..=ADDERS).fold(false, |applied, job| matches!(run.turn(job), Ok(Some(_))) || applied)
+    (1..=ADDERS).fold(
+        false,
+        |applied, job| matches!(run.turn(job), Ok(Some(_))) || applied,
+    )
 }
 
 fn stands<S: Store>(run: &Run<S>, job: u32) -> bool {

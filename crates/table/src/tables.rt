@@ -29,7 +29,9 @@ impl Table {
         ensures { MatchResult result (λ i. (job ≡ suc i) × (i < array_vec_len self.now.jobs)) (λ refusal. (refusal ≡ NoSuchJob) × (at (jobs_in self.now) job ≡ None)) }
     {
         let place = (job as usize).checked_sub(1);
-        place.filter(|i| *i < self.jobs.len()).ok_or(Refusal::NoSuchJob)
+        place
+            .filter(|i| *i < self.jobs.len())
+            .ok_or(Refusal::NoSuchJob)
     }
 
     // The turn of the job at a place, as far as it changes the job.
