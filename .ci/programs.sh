@@ -1,5 +1,5 @@
 #!/bin/sh
-# Runs listing_run as its user does: the examples with what they print, the status of a refused listing, and its words.
+# Runs factrun as its user does: the examples with what they print, the status of a refused listing, and its words.
 # After rt ci the program is there; else it is built first.
 set -u
 root=$(cd "$(dirname "$0")/.." && pwd -P)
@@ -7,21 +7,21 @@ out=$(mktemp) err=$(mktemp)
 trap 'rm -f "$out" "$err"' EXIT
 
 fail() {
-    echo "listing_run: $1"
+    echo "factrun: $1"
     exit 1
 }
 
-# expect NAME STATUS LINES WORD..: listing_run's status with these words, and how many lines it prints.
+# expect NAME STATUS LINES WORD..: factrun's status with these words, and how many lines it prints.
 expect() {
     name=$1 status=$2 lines=$3
     shift 3
-    "$root/listing_run" "$@" <"$input" >"$out" 2>"$err"
+    "$root/factrun" "$@" <"$input" >"$out" 2>"$err"
     got=$?
     [ "$got" -eq "$status" ] || fail "$name: status $got and not $status"
     [ "$(wc -l <"$out")" -eq "$lines" ] || fail "$name: not $lines lines"
 }
 
-"$root/listing_run" --version </dev/null >"$out" 2>"$err" || fail "it cannot be built: $(tail -n 3 "$err")"
+"$root/factrun" --version </dev/null >"$out" 2>"$err" || fail "it cannot be built: $(tail -n 3 "$err")"
 for input in "$root"/examples/*.listing; do
     expected=${input%.listing}.output
     case $(head -c 1 "$expected") in !) status=1 ;; *) status=0 ;; esac
@@ -33,4 +33,4 @@ expect --help 0 1 --help
 expect --version 0 1 --version
 expect "an unknown word" 1 0 --unknown
 [ -s "$err" ] || fail "an unknown word: nothing said"
-echo "listing_run does what its users see: the examples, the status of faults, --help, --version"
+echo "factrun does what its users see: the examples, the status of faults, --help, --version"

@@ -1,4 +1,4 @@
-// A yardstick for listing_run's speed: the same run in plain C, write-back layer included. It takes a listing without faults.
+// A yardstick for factrun's speed: the same run in plain C, write-back layer included. It takes a listing without faults.
 #include <stdint.h>
 #include <stdio.h>
 #include <stdlib.h>

@@ -24,7 +24,7 @@ const FEW_TURNS: u32 = 3;
 
 const MOST_TURNS: u32 = 100;
 
-// Reads the cell, adds one, writes it back and ends. The program `factrun` has this job too, and says why.
+// Reads the cell, adds one, writes it back and ends.
 const PROGRAM: [Step; 5] = [
     Step::Read {
         register: 0,
