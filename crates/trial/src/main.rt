@@ -1,0 +1,105 @@
+// Tries the library over every kind of store against a serial replay of its own: every mixture of the first turns of
+// small runs, and long runs by chance. It prints what was tried, and how often the two disagreed. With the word `few` it
+// tries less, which is enough to be run without proofs.
+#![tactic(auto)]
+
+mod admissions;
+mod chance;
+mod corrections;
+mod mixtures;
+mod programs;
+mod random;
+mod replay;
+mod tally;
+mod trial;
+
+use change_list::ChangeList;
+use mixtures::Mixed;
+use replay::CELLS;
+use std::env;
+use std::process::ExitCode;
+use store::Store;
+use store::change::Change;
+use store::word_table::WordTable;
+use tally::Tally;
+use write_back::WriteBack;
+
+// How much is tried over each kind of store.
+#[derive(Clone, Copy)]
+struct Extent {
+    mixed: Mixed,
+    long_runs: u64,
+}
+
+const ALL: Extent = Extent {
+    mixed: Mixed {
+        of_two: 12,
+        of_two_corrected: 7,
+        of_three: 7,
+        of_three_corrected: 4,
+    },
+    long_runs: 250,
+};
+
+const FEW: Extent = Extent {
+    mixed: Mixed {
+        of_two: 6,
+        of_two_corrected: 3,
+        of_three: 3,
+        of_three_corrected: 2,
+    },
+    long_runs: 3,
+};
+
+// Small runs over two cells.
+fn small_runs<S: Store>(store: S, extent: Extent, tally: &mut Tally) -> S {
+    mixtures::mixtures(admissions::admissions(store, tally), extent.mixed, tally)
+}
+
+// Small runs over every kind of store, and over layers.
+fn all_small_runs(extent: Extent, tally: &mut Tally) {
+    let mut words = [0; 2];
+    small_runs(WordTable::new(&mut words), extent, tally);
+    let mut records = [Change::default(); 3];
+    small_runs(ChangeList::new(&mut records), extent, tally);
+    let mut words = [0; 2];
+    let layers = WriteBack::new(WriteBack::new(WordTable::new(&mut words)));
+    small_runs(layers, extent, tally).into_store().into_store();
+    let mut records = [Change::default(); 3];
+    let layer = WriteBack::new(ChangeList::new(&mut records));
+    small_runs(layer, extent, tally).into_store();
+}
+
+// Long runs, likewise.
+fn all_long_runs(runs: u64, tally: &mut Tally) {
+    let mut words = [0; CELLS];
+    chance::long_runs(WordTable::new(&mut words), runs, tally);
+    let mut records = [Change::default(); CELLS + 1];
+    chance::long_runs(ChangeList::new(&mut records), runs, tally);
+    let mut words = [0; CELLS];
+    let layers = WriteBack::new(WriteBack::new(WordTable::new(&mut words)));
+    chance::long_runs(layers, runs, tally)
+        .into_store()
+        .into_store();
+    let mut records = [Change::default(); CELLS + 1];
+    let layer = WriteBack::new(ChangeList::new(&mut records));
+    chance::long_runs(layer, runs, tally).into_store();
+}
+
+fn main(rt: HostRuntime) -> anyhow::Result<ExitCode> {
+    let mut args = env::args(&rt)?;
+    let _program = args.next();
+    let extent = match args.next() {
+        Some(word) if word.as_str() == "few" => FEW,
+        _ => ALL,
+    };
+    let mut tally = Tally::new();
+    all_small_runs(extent, &mut tally);
+    all_long_runs(extent.long_runs, &mut tally);
+    tally.print(&rt)?;
+    if tally.disagreements == 0 {
+        Ok(ExitCode::SUCCESS)
+    } else {
+        Ok(ExitCode::FAILURE)
+    }
+}
