@@ -43,8 +43,8 @@ const ALL: Extent = Extent {
 
 const FEW: Extent = Extent {
     mixed: Mixed {
-        of_two: 6,
-        of_two_corrected: 3,
+        of_two: 7,
+        of_two_corrected: 6,
         of_three: 3,
         of_three_corrected: 2,
     },

@@ -1,4 +1,4 @@
-use crate::programs::{adder, swapper, waiter};
+use crate::programs::{adder, doubler, swapper, waiter};
 use crate::tally::Tally;
 use crate::trial::Trial;
 use job::program::Program;
@@ -155,8 +155,8 @@ fn three<S: Store>(store: S, programs: [Program; 3], mixed: Mixed, tally: &mut T
 
 // All mixtures of small runs over a store.
 pub(crate) fn mixtures<S: Store>(store: S, mixed: Mixed, tally: &mut Tally) -> S {
-    let store = two(store, [adder(), adder()], mixed, tally);
-    let store = two(store, [swapper(), adder()], mixed, tally);
+    let store = two(store, [doubler(), doubler()], mixed, tally);
+    let store = two(store, [swapper(), doubler()], mixed, tally);
     let store = two(store, [waiter(), adder()], mixed, tally);
     three(store, [waiter(), adder(), swapper()], mixed, tally)
 }

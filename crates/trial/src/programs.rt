@@ -24,6 +24,23 @@ const ADDER: [Step; 5] = [
     Step::End,
 ];
 
+// Doubles cell 0.
+const DOUBLER: [Step; 4] = [
+    Step::Read {
+        register: 0,
+        cell: 0,
+    },
+    Step::Add {
+        register: 0,
+        other: 0,
+    },
+    Step::Write {
+        cell: 0,
+        register: 0,
+    },
+    Step::End,
+];
+
 // Swaps cells 0 and 1.
 const SWAPPER: [Step; 5] = [
     Step::Read {
@@ -76,6 +93,10 @@ const MOST_STEPS_BEFORE: usize = 14;
 
 pub(crate) fn adder() -> Program {
     Program::new(&ADDER).unwrap()
+}
+
+pub(crate) fn doubler() -> Program {
+    Program::new(&DOUBLER).unwrap()
 }
 
 pub(crate) fn swapper() -> Program {
