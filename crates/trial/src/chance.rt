@@ -37,79 +37,69 @@ fn keep(slot: &mut Option<Slip>, slip: Slip) {
 }
 
 // Opens a correction in an empty slot, or makes a call with the slip that is there.
-fn correct<S: Store>(
-    trial: &mut Trial<S>,
-    slot: &mut Option<Slip>,
-    random: &mut Random,
-    tally: &mut Tally,
-) {
+fn correct<S: Store>(trial: &mut Trial<S>, slot: &mut Option<Slip>, random: &mut Random) {
     let Some(slip) = slot.take() else {
-        if let Some(slip) = trial.open(tally) {
+        if let Some(slip) = trial.open() {
             keep(slot, slip);
         }
         return;
     };
     match random.below(12) {
-        0 => trial.withdraw(slip, tally),
+        0 => trial.withdraw(slip),
         1 => {
-            if let Some(slip) = trial.file(slip, tally) {
+            if let Some(slip) = trial.file(slip) {
                 keep(slot, slip);
             }
         }
         2..=6 => {
-            trial.read(&slip, any_cell(random), tally);
+            trial.read(&slip, any_cell(random));
             keep(slot, slip);
         }
         _ => {
-            trial.write(&slip, any_cell(random), random.below(10), tally);
+            trial.write(&slip, any_cell(random), random.below(10));
             keep(slot, slip);
         }
     }
 }
 
 // One call by chance: mostly a turn, of a job that was not admitted now and then.
-fn call<S: Store>(trial: &mut Trial<S>, slips: &mut Slips, random: &mut Random, tally: &mut Tally) {
+fn call<S: Store>(trial: &mut Trial<S>, slips: &mut Slips, random: &mut Random) {
     match random.below(32) {
-        0 => trial.settle(tally),
+        0 => trial.settle(),
         1 => {
-            trial.turn(random.below(40), tally);
+            trial.turn(random.below(40));
         }
         2..=7 => {
             let place = random.below(SLIPS as u32) as usize;
             if let Some(slot) = slips.get_mut(place) {
-                correct(trial, slot, random, tally);
+                correct(trial, slot, random);
             }
         }
         _ => {
-            trial.turn(random.below(JOBS as u32).wrapping_add(1), tally);
+            trial.turn(random.below(JOBS as u32).wrapping_add(1));
         }
     }
 }
 
 // Calls with the slip of another run, which may have the same number: then the slip passes for one of this run.
-fn stranger<S: Store>(trial: &mut Trial<S>, number: u32, random: &mut Random, tally: &mut Tally) {
+fn stranger<S: Store>(trial: &mut Trial<S>, number: u32, random: &mut Random) {
     let mut words = [0];
     let mut other = Intake::new(WordTable::new(&mut words), number).seal();
     if let Ok(slip) = other.open_correction() {
-        trial.read(&slip, any_cell(random), tally);
-        trial.write(&slip, any_cell(random), 3, tally);
-        if let Some(slip) = trial.file(slip, tally) {
-            trial.withdraw(slip, tally);
+        trial.read(&slip, any_cell(random));
+        trial.write(&slip, any_cell(random), 3);
+        if let Some(slip) = trial.file(slip) {
+            trial.withdraw(slip);
         }
     }
     other.close();
 }
 
 // Withdraws a correction whose slip is left, or lets the slip go at the run's end.
-fn spend<S: Store>(
-    trial: &mut Trial<S>,
-    slot: Option<Slip>,
-    random: &mut Random,
-    tally: &mut Tally,
-) {
+fn spend<S: Store>(trial: &mut Trial<S>, slot: Option<Slip>, random: &mut Random) {
     if let Some(slip) = slot {
         if random.below(2) == 0 {
-            trial.withdraw(slip, tally);
+            trial.withdraw(slip);
         } else {
             slip.discard();
         }
@@ -129,35 +119,37 @@ fn long_run<S: Store>(store: S, random: &mut Random, tally: &mut Tally) -> S {
     let mut trial = Trial::new(store, RUN, &programs, &cells, tally);
     let mut slips = [None, None, None, None, None, None, None, None];
     for _ in 0..CALLS {
-        call(&mut trial, &mut slips, random, tally);
+        call(&mut trial, &mut slips, random);
     }
-    stranger(&mut trial, RUN.wrapping_add(random.below(2)), random, tally);
+    stranger(&mut trial, RUN.wrapping_add(random.below(2)), random);
     let [a, b, c, d, e, f, g, h] = slips;
-    spend(&mut trial, a, random, tally);
-    spend(&mut trial, b, random, tally);
-    spend(&mut trial, c, random, tally);
-    spend(&mut trial, d, random, tally);
-    spend(&mut trial, e, random, tally);
-    spend(&mut trial, f, random, tally);
-    spend(&mut trial, g, random, tally);
-    spend(&mut trial, h, random, tally);
-    trial.finish(tally)
+    spend(&mut trial, a, random);
+    spend(&mut trial, b, random);
+    spend(&mut trial, c, random);
+    spend(&mut trial, d, random);
+    spend(&mut trial, e, random);
+    spend(&mut trial, f, random);
+    spend(&mut trial, g, random);
+    spend(&mut trial, h, random);
+    trial.finish();
+    trial.close()
 }
 
 // A correction that reads and writes every cell, more than its logs have room for.
 fn full_logs<S: Store>(store: S, tally: &mut Tally) -> S {
     let programs = [adder()];
     let mut trial = Trial::new(store, RUN, &programs, &[0; CELLS], tally);
-    if let Some(slip) = trial.open(tally) {
+    if let Some(slip) = trial.open() {
         for cell in 0..CELLS as u32 {
-            trial.read(&slip, cell, tally);
-            trial.write(&slip, (CELLS as u32).wrapping_sub(cell), cell, tally);
+            trial.read(&slip, cell);
+            trial.write(&slip, (CELLS as u32).wrapping_sub(cell), cell);
         }
-        if let Some(slip) = trial.file(slip, tally) {
-            trial.withdraw(slip, tally);
+        if let Some(slip) = trial.file(slip) {
+            trial.withdraw(slip);
         }
     }
-    trial.finish(tally)
+    trial.finish();
+    trial.close()
 }
 
 // So many long runs over a store, one after the other.

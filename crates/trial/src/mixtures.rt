@@ -27,9 +27,9 @@ impl Order {
     }
 
     // Gives so many turns.
-    fn play<S: Store>(&mut self, trial: &mut Trial<S>, turns: u32, tally: &mut Tally) {
+    fn play<S: Store>(&mut self, trial: &mut Trial<S>, turns: u32) {
         for _ in 0..turns {
-            trial.turn(self.next(), tally);
+            trial.turn(self.next());
         }
     }
 }
@@ -43,18 +43,18 @@ struct Turns {
 }
 
 // Opens a correction that reads both cells.
-fn open<S: Store>(trial: &mut Trial<S>, tally: &mut Tally) -> Option<Slip> {
-    let slip = trial.open(tally)?;
-    trial.read(&slip, 0, tally);
-    trial.read(&slip, 1, tally);
+fn open<S: Store>(trial: &mut Trial<S>) -> Option<Slip> {
+    let slip = trial.open()?;
+    trial.read(&slip, 0);
+    trial.read(&slip, 1);
     Some(slip)
 }
 
 // Writes the first cell and files the correction; withdraws it where that is refused.
-fn file<S: Store>(trial: &mut Trial<S>, slip: Slip, tally: &mut Tally) {
-    trial.write(&slip, 0, 9, tally);
-    if let Some(slip) = trial.file(slip, tally) {
-        trial.withdraw(slip, tally);
+fn file<S: Store>(trial: &mut Trial<S>, slip: Slip) {
+    trial.write(&slip, 0, 9);
+    if let Some(slip) = trial.file(slip) {
+        trial.withdraw(slip);
     }
 }
 
@@ -62,8 +62,9 @@ fn file<S: Store>(trial: &mut Trial<S>, slip: Slip, tally: &mut Tally) {
 fn run<S: Store>(store: S, programs: &[Program], order: Order, turns: u32, tally: &mut Tally) -> S {
     let mut order = order;
     let mut trial = Trial::new(store, RUN, programs, &CELLS, tally);
-    order.play(&mut trial, turns, tally);
-    trial.finish(tally)
+    order.play(&mut trial, turns);
+    trial.finish();
+    trial.close()
 }
 
 // The same run with a correction between the turns.
@@ -76,14 +77,15 @@ fn corrected_run<S: Store>(
 ) -> S {
     let mut order = order;
     let mut trial = Trial::new(store, RUN, programs, &CELLS, tally);
-    order.play(&mut trial, turns.before, tally);
-    let slip = open(&mut trial, tally);
-    order.play(&mut trial, turns.open, tally);
+    order.play(&mut trial, turns.before);
+    let slip = open(&mut trial);
+    order.play(&mut trial, turns.open);
     if let Some(slip) = slip {
-        file(&mut trial, slip, tally);
+        file(&mut trial, slip);
     }
-    order.play(&mut trial, turns.after, tally);
-    trial.finish(tally)
+    order.play(&mut trial, turns.after);
+    trial.finish();
+    trial.close()
 }
 
 // Every order of so many first turns.

@@ -19,6 +19,7 @@ const MOST_TURNS: usize = 400;
 // A running run, and beside it what a serial replay makes of its commit order. Each call is checked after it is made.
 pub(crate) struct Trial<'a, S: Store> {
     run: Run<S>,
+    tally: &'a mut Tally,
     number: u32,
     programs: &'a [Program],
     player: Player,
@@ -37,7 +38,7 @@ impl<'a, S: Store> Trial<'a, S> {
         number: u32,
         programs: &'a [Program],
         cells: &[u32],
-        tally: &mut Tally,
+        tally: &'a mut Tally,
     ) -> Trial<'a, S> {
         let mut first = Notes::new();
         for (cell, number) in (0u32..).zip(cells.iter()) {
@@ -46,6 +47,7 @@ impl<'a, S: Store> Trial<'a, S> {
         }
         Trial {
             run: sealed(store, number, programs, tally),
+            tally,
             number,
             programs,
             player: Player::new(first),
@@ -58,21 +60,21 @@ impl<'a, S: Store> Trial<'a, S> {
     }
 
     // Gives a job a turn, and answers whether a rule applied.
-    pub(crate) fn turn(&mut self, job: u32, tally: &mut Tally) -> bool {
+    pub(crate) fn turn(&mut self, job: u32) -> bool {
         let known = job > 0 && job as usize <= self.programs.len();
-        tally.turns = tally.turns.wrapping_add(1);
+        self.tally.turns = self.tally.turns.wrapping_add(1);
         match self.run.turn(job) {
             Ok(applied) => {
-                tally.expect(known);
+                self.tally.expect(known);
                 if let Some(applied) = applied {
                     self.applied(job, applied.rule);
                 }
-                self.check(tally);
+                self.check();
                 applied.is_some()
             }
             Err(refusal) => {
-                tally.expect(!known && refusal == Refusal::NoSuchJob);
-                tally.refused(refusal);
+                self.tally.expect(!known && refusal == Refusal::NoSuchJob);
+                self.tally.refused(refusal);
                 false
             }
         }
@@ -93,47 +95,46 @@ impl<'a, S: Store> Trial<'a, S> {
         }
     }
 
-    pub(crate) fn settle(&mut self, tally: &mut Tally) {
+    pub(crate) fn settle(&mut self) {
         self.run.settle();
         self.right_held = false;
-        self.check(tally);
+        self.check();
     }
 
     // Plays what has joined the commit order. While the right is free, cells and counters are what the play leaves.
-    fn check(&mut self, tally: &mut Tally) {
+    fn check(&mut self) {
         for place in self.played..self.run.commits() as u32 {
             if let Some(party) = self.run.entry(place.wrapping_add(1)) {
-                self.play(party, tally);
+                self.play(party);
             }
         }
         self.played = self.run.commits() as u32;
         if !self.right_held {
             let cells = (0..self.run.count() as u32).all(|cell| self.run.cell(cell).ok()
                 == self.player.cells.get(cell));
-            tally.expect(cells);
-            tally.expect(
+            self.tally.expect(cells);
+            self.tally.expect(
                 self.run.takings() == self.played && self.run.settings() as usize == self.set,
             );
         }
     }
 
     // Plays one entry of the commit order: it ends, and reads what it was answered.
-    fn play(&mut self, party: Party, tally: &mut Tally) {
+    fn play(&mut self, party: Party) {
         let ending = match party {
             Party::Job(job) => self.play_job(job),
-            Party::Correction(k) => {
-                let correction = self.corrections.get((k as usize).wrapping_sub(1));
-                match correction {
-                    Some(correction) => self.player.correction(correction.accesses.as_slice()),
-                    None => None,
-                }
-            }
+            Party::Correction(correction) => self.play_correction(correction),
         };
         match ending {
             Some(Ending::Ends(set)) => self.set = self.set.wrapping_add(set),
-            _ => tally.expect(false),
+            _ => self.tally.expect(false),
         }
-        tally.commits = tally.commits.wrapping_add(1);
+        self.tally.commits = self.tally.commits.wrapping_add(1);
+    }
+
+    fn play_correction(&mut self, correction: u32) -> Option<Ending> {
+        let correction = self.corrections.get((correction as usize).wrapping_sub(1))?;
+        self.player.correction(correction.accesses.as_slice())
     }
 
     fn play_job(&mut self, job: u32) -> Option<Ending> {
@@ -154,19 +155,20 @@ fn sealed<S: Store>(store: S, number: u32, programs: &[Program], tally: &mut Tal
 // Calls with a slip.
 impl<'a, S: Store> Trial<'a, S> {
     // Opens a correction, if there is room for one more.
-    pub(crate) fn open(&mut self, tally: &mut Tally) -> Option<Slip> {
+    pub(crate) fn open(&mut self) -> Option<Slip> {
         let fits = !self.corrections.is_full();
         match self.run.open_correction() {
             Ok(slip) => {
                 let _ = self.corrections.try_push(Correction::new());
                 let next = self.corrections.len() as u32;
-                tally.expect(fits && slip.run() == self.number && slip.correction() == next);
-                tally.corrections = tally.corrections.wrapping_add(1);
+                self.tally.expect(fits && slip.run() == self.number && slip.correction() == next);
+                self.tally.corrections = self.tally.corrections.wrapping_add(1);
                 Some(slip)
             }
             Err(refusal) => {
-                tally.expect(!fits && refusal == Refusal::TooManyCorrections);
-                tally.refused(refusal);
+                self.tally
+                    .expect(!fits && refusal == Refusal::TooManyCorrections);
+                self.tally.refused(refusal);
                 None
             }
         }
@@ -184,26 +186,24 @@ impl<'a, S: Store> Trial<'a, S> {
         }
     }
 
-    pub(crate) fn read(&mut self, slip: &Slip, cell: u32, tally: &mut Tally) {
+    pub(crate) fn read(&mut self, slip: &Slip, cell: u32) {
         let stored = self.run.cell(cell);
-        let expected = match self.correction(slip) {
-            Ok(correction) => correction.read(cell, stored),
-            Err(refusal) => Err(refusal),
-        };
+        let expected = self
+            .correction(slip)
+            .and_then(|open| open.read(cell, stored));
         let answer = self.run.read(slip, cell);
-        tally.expect(answer == expected);
-        self.told(answer.err(), tally);
+        self.tally.expect(answer == expected);
+        self.told(answer.err());
     }
 
-    pub(crate) fn write(&mut self, slip: &Slip, cell: u32, number: u32, tally: &mut Tally) {
+    pub(crate) fn write(&mut self, slip: &Slip, cell: u32, number: u32) {
         let stored = self.run.cell(cell);
-        let expected = match self.correction(slip) {
-            Ok(correction) => correction.write(cell, number, stored),
-            Err(refusal) => Err(refusal),
-        };
+        let expected = self
+            .correction(slip)
+            .and_then(|open| open.write(cell, number, stored));
         let answer = self.run.write(slip, cell, number);
-        tally.expect(answer == expected);
-        self.told(answer.err(), tally);
+        self.tally.expect(answer == expected);
+        self.told(answer.err());
     }
 
     // What filing is to answer.
@@ -218,38 +218,35 @@ impl<'a, S: Store> Trial<'a, S> {
             let read = correction.reads.get(*cell);
             read.is_some() && read != cells.get(*cell)
         });
-        match changed {
-            Some(cell) => Err(Refusal::Changed { cell }),
-            None => Ok(()),
-        }
+        changed.map_or(Ok(()), |cell| Err(Refusal::Changed { cell }))
     }
 
     // Files a correction. Refused, the slip comes back.
-    pub(crate) fn file(&mut self, slip: Slip, tally: &mut Tally) -> Option<Slip> {
+    pub(crate) fn file(&mut self, slip: Slip) -> Option<Slip> {
         let expected = self.filing(&slip);
         if expected.is_ok() {
             let _ = self.close_correction(&slip);
         }
         match self.run.file(slip) {
             Ok(()) => {
-                tally.expect(expected == Ok(()));
-                self.told(None, tally);
+                self.tally.expect(expected == Ok(()));
+                self.told(None);
                 None
             }
             Err(Unfiled { slip, refusal }) => {
-                tally.expect(expected == Err(refusal));
-                self.told(Some(refusal), tally);
+                self.tally.expect(expected == Err(refusal));
+                self.told(Some(refusal));
                 Some(slip)
             }
         }
     }
 
     // Withdraws a correction, which spends the slip in any case.
-    pub(crate) fn withdraw(&mut self, slip: Slip, tally: &mut Tally) {
+    pub(crate) fn withdraw(&mut self, slip: Slip) {
         let expected = self.close_correction(&slip);
         let answer = self.run.withdraw(slip);
-        tally.expect(answer == expected);
-        self.told(answer.err(), tally);
+        self.tally.expect(answer == expected);
+        self.told(answer.err());
     }
 
     fn close_correction(&mut self, slip: &Slip) -> Result<(), Refusal> {
@@ -259,25 +256,30 @@ impl<'a, S: Store> Trial<'a, S> {
     }
 
     // Counts a refusal, if there was one, and checks what the call has left.
-    fn told(&mut self, refusal: Option<Refusal>, tally: &mut Tally) {
+    fn told(&mut self, refusal: Option<Refusal>) {
         if let Some(refusal) = refusal {
-            tally.refused(refusal);
+            self.tally.refused(refusal);
         }
-        self.check(tally);
+        self.check();
     }
 }
 
 // The end of a run.
 impl<'a, S: Store> Trial<'a, S> {
-    // Gives each job turns until it has none left, one after the other, and closes the run.
-    pub(crate) fn finish(mut self, tally: &mut Tally) -> S {
-        self.settle(tally);
+    // Gives each job turns until it has none left, one after the other.
+    pub(crate) fn finish(&mut self) {
+        self.settle();
         for job in 1..=self.run.jobs() as u32 {
-            self.drive(job, tally);
+            self.drive(job);
         }
-        self.check_starts(tally);
+        self.check_starts();
+    }
+
+    // Closes the run. The store that comes back holds what the play leaves.
+    pub(crate) fn close(self) -> S {
         let Trial {
             run,
+            tally,
             number: _,
             programs: _,
             player,
@@ -295,26 +297,32 @@ impl<'a, S: Store> Trial<'a, S> {
     }
 
     // Gives a job turns until none fits. Then it has committed, or waits where its play would wait.
-    fn drive(&mut self, job: u32, tally: &mut Tally) {
+    fn drive(&mut self, job: u32) {
         for _ in 0..MOST_TURNS {
-            if !self.turn(job, tally) {
+            if !self.turn(job) {
                 break;
             }
         }
         let done = (1..=self.played).any(|place| self.run.entry(place) == Some(Party::Job(job)));
         if !done {
             let before = self.player;
-            tally.expect(self.play_job(job) == Some(Ending::Waits));
+            let waits = self.play_job(job) == Some(Ending::Waits);
+            self.tally.expect(waits);
             self.player = before;
         }
     }
 
     // A job has started as often as it was seen to, and restarts have a cause.
-    fn check_starts(&self, tally: &mut Tally) {
+    fn check_starts(&mut self) {
         let causes = self.run.takings().wrapping_add(self.run.settings());
         for (job, starts) in (1u32..).zip(self.starts.iter().take(self.programs.len())) {
-            tally.expect(self.run.starts(job) == Ok(*starts) && *starts <= causes.wrapping_add(1));
-            tally.restarts = tally.restarts.wrapping_add(starts.saturating_sub(1) as u64);
+            self.tally.expect(
+                self.run.starts(job) == Ok(*starts) && *starts <= causes.wrapping_add(1),
+            );
+            self.tally.restarts = self
+                .tally
+                .restarts
+                .wrapping_add(starts.saturating_sub(1) as u64);
         }
     }
 }
