@@ -129,18 +129,6 @@ after_writing c v n old new r x e h =
     let same = ap (λ z. length (entries_of z)) p.1 in
     (omega arith, omega (arith, ap length p.0, length-put_le c v (entries_of old.writes)))
 
--- Fewer entries in the write log do no harm.
-pub placed_less : (st : Stage) (program : List Step) (reads writes fewer : Entries) → length fewer ≤ length writes → placed st program reads writes ≡ true → placed st program reads fewer ≡ true
-placed_less Start program reads writes fewer h e = refl
-placed_less (At n) program reads writes fewer h e =
-    let x = and_parts (ltb n (length program)) (leb (length reads) n && leb (length writes) n) e in
-    let y = and_parts (leb (length reads) n) (leb (length writes) n) x.1 in
-    placed_at n program reads fewer (ltb-true n (length program) x.0) (leb-true (length reads) n y.0) (omega (arith, leb-true (length writes) n y.1))
-placed_less Rollback program reads writes fewer h e = refl
-placed_less Validate program reads writes fewer h e = refl
-placed_less Commit program reads writes fewer h e = refl
-placed_less Done program reads writes fewer h e = refl
-
 -- A step that makes a number is followed by the next one, and its register is there.
 pub makes_on : (b : JobState) (n r number : ℕ) (st : Step) → AtPlace b n st → Makes st b.registers r number → (suc n < length b.program) × (r < 8)
 makes_on b n r number (Read q c) here m = absurd m

@@ -9,7 +9,7 @@ ghost use Rattle.model.specs.declared.Party.TheVariants.{Job};
 use std::fmt;
 
 // A step of a job's program, over eight 32-bit registers, numbered 0 to 7. The letters are those of a listing.
-#[derive(Clone, Copy, Debug, Default, PartialEq)]
+#[derive(Clone, Copy, Debug, PartialEq)]
 pub enum Step {
     // R: reads the cell into the register.
     Read {
@@ -44,8 +44,7 @@ pub enum Step {
     },
     // T: waits.
     Wait,
-    // E: ends. It also fills the places of a program that no step stands in.
-    #[default]
+    // E: ends.
     End,
 }
 

@@ -33,12 +33,12 @@ struct Extent {
 
 const ALL: Extent = Extent {
     mixed: Mixed {
-        of_two: 12,
-        of_two_corrected: 7,
-        of_three: 7,
-        of_three_corrected: 4,
+        of_two: 14,
+        of_two_corrected: 8,
+        of_three: 9,
+        of_three_corrected: 5,
     },
-    long_runs: 250,
+    long_runs: 400,
 };
 
 const FEW: Extent = Extent {
