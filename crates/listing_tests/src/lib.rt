@@ -9,3 +9,5 @@ mod faults;
 mod outputs;
 #[cfg(test)]
 mod reader;
+#[cfg(test)]
+mod words;

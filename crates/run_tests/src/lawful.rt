@@ -16,8 +16,15 @@ pub fn turn_and_file<S: Store>(intake: Intake<S>, job: u32, slip: Slip) -> S
 {
     let mut run = intake.seal();
     let _ = run.turn(job);
-    if let Err(Unfiled { slip, refusal: _ }) = run.file(slip) {
+    let filed = run.file(slip);
+    let store = run.close();
+    discard(filed);
+    store
+}
+
+// Lets go of a slip that came back, now that its run is closed.
+fn discard(filed: Result<(), Unfiled>) {
+    if let Err(Unfiled { slip, refusal: _ }) = filed {
         slip.discard();
     }
-    run.close()
 }

@@ -108,7 +108,7 @@ fn two_at_a_time<S: Store>(checks: &mut Checks, run: &mut Run<S>) {
         return checks.that("two: opening one", false);
     };
     let Ok(other) = run.open_correction() else {
-        one.discard();
+        let _ = run.withdraw(one);
         return checks.that("two: opening the other", false);
     };
     checks.that(
@@ -154,7 +154,7 @@ fn refused_filing<S: Store>(run: &mut Run<S>, slip: Slip, why: Refusal) -> Optio
         Ok(()) => None,
         Err(Unfiled { slip, refusal }) if refusal == why => Some(slip),
         Err(Unfiled { slip, refusal: _ }) => {
-            slip.discard();
+            let _ = run.withdraw(slip);
             None
         }
     }
@@ -173,7 +173,7 @@ fn opens<S: Store>(checks: &mut Checks, run: &mut Run<S>, number: u32) {
 fn refuses_one_more<S: Store>(checks: &mut Checks, run: &mut Run<S>) {
     match run.open_correction() {
         Ok(slip) => {
-            slip.discard();
+            let _ = run.withdraw(slip);
             checks.that("a ninth: opened", false);
         }
         Err(refusal) => checks.that(

@@ -95,14 +95,21 @@ fn stranger<S: Store>(trial: &mut Trial<S>, number: u32, random: &mut Random) {
     other.close();
 }
 
-// Withdraws a correction whose slip is left, or lets the slip go at the run's end.
-fn spend<S: Store>(trial: &mut Trial<S>, slot: Option<Slip>, random: &mut Random) {
-    if let Some(slip) = slot {
+// Withdraws some of the corrections whose slips are left.
+fn withdraw_some<S: Store>(trial: &mut Trial<S>, slips: &mut Slips, random: &mut Random) {
+    for slot in slips.iter_mut() {
         if random.below(2) == 0 {
-            trial.withdraw(slip);
-        } else {
-            slip.discard();
+            if let Some(slip) = slot.take() {
+                trial.withdraw(slip);
+            }
         }
+    }
+}
+
+// Lets a slip go, if it is left when its run is closed.
+fn discard(slot: Option<Slip>) {
+    if let Some(slip) = slot {
+        slip.discard();
     }
 }
 
@@ -122,17 +129,19 @@ fn long_run<S: Store>(store: S, random: &mut Random, tally: &mut Tally) -> S {
         call(&mut trial, &mut slips, random);
     }
     stranger(&mut trial, RUN.wrapping_add(random.below(2)), random);
-    let [a, b, c, d, e, f, g, h] = slips;
-    spend(&mut trial, a, random);
-    spend(&mut trial, b, random);
-    spend(&mut trial, c, random);
-    spend(&mut trial, d, random);
-    spend(&mut trial, e, random);
-    spend(&mut trial, f, random);
-    spend(&mut trial, g, random);
-    spend(&mut trial, h, random);
+    withdraw_some(&mut trial, &mut slips, random);
     trial.finish();
-    trial.close()
+    let store = trial.close();
+    let [a, b, c, d, e, f, g, h] = slips;
+    discard(a);
+    discard(b);
+    discard(c);
+    discard(d);
+    discard(e);
+    discard(f);
+    discard(g);
+    discard(h);
+    store
 }
 
 // A correction that reads and writes every cell, more than its logs have room for.

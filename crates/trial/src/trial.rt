@@ -74,7 +74,7 @@ impl<'a, S: Store> Trial<'a, S> {
             }
             Err(refusal) => {
                 self.tally.expect(!known && refusal == Refusal::NoSuchJob);
-                self.tally.refused(refusal);
+                self.told(Some(refusal));
                 false
             }
         }
@@ -163,6 +163,7 @@ impl<'a, S: Store> Trial<'a, S> {
                 let next = self.corrections.len() as u32;
                 self.tally.expect(fits && slip.run() == self.number && slip.correction() == next);
                 self.tally.corrections = self.tally.corrections.wrapping_add(1);
+                self.told(None);
                 Some(slip)
             }
             Err(refusal) => {

@@ -13,7 +13,7 @@ returns g c =
     let slip = numbers_of c.args.slip in
     let calls = Turn c.args.job ∷ File slip ∷ [] in
     let s₀ = state cells c.seal-run.result in
-    c.close.ensures.cells
-    ∙ (ap closed_cells (c.file.ensures.next ∙ ap (λ s. (call s (File slip)).next) c.turn.ensures.next)
+    c.close-store.ensures.cells
+    ∙ (ap closed_cells (c.file-filed.ensures.next ∙ ap (λ s. (call s (File slip)).next) c.turn.ensures.next)
     ∙ (closing s₀ c.seal-run.ensures.lawful calls
     ∙ ap (λ s. left_by s calls) c.seal-run.ensures.sealed))
