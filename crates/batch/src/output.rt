@@ -1,5 +1,6 @@
 ghost use Rattle.std.specs.Prelude.{◌≡◌, replicate, is_ok, IfOk, Err, string_bytes};
 ghost use Rattle.listing_reader.specs.Drafts.{script_in};
+ghost use Rattle.model.specs.Intake.{closed_cells};
 ghost use Rattle.run.specs.Runs.{state};
 ghost use Rattle.script.specs.Faults.{outcome};
 ghost use Rattle.batch.specs.Reports.{report_text, printed, output_text};
@@ -37,10 +38,11 @@ fn run_script<S: Store>(mut store: S, script: &Script) -> Run<S>
     run
 }
 
-// What is printed of a script that runs over a write-back layer. The store below comes back.
+// What is printed of a script that runs over a write-back layer. The store below comes back, with the run's cells.
 fn report_over<S: Store>(heap: Global, below: S, script: &Script) -> (S, Result<String, AllocError>)
     requires { S.Store.cells below ≡ replicate (script_in script.now).count 0 }
-    ensures { IfOk result.1 (λ t. string_bytes t ≡ report_text (final_state (script_in script.now))) }
+    ensures text { IfOk result.1 (λ t. string_bytes t ≡ report_text (final_state (script_in script.now))) }
+    ensures cells { S.Store.cells result.0 ≡ closed_cells (final_state (script_in script.now)) }
 {
     let run = run_script(WriteBack::new(below), script);
     let text = report_of(heap, &run);

@@ -48,12 +48,24 @@ const FEW: Extent = Extent {
         of_three: 3,
         of_three_corrected: 2,
     },
-    long_runs: 3,
+    long_runs: 10,
 };
 
 // Small runs over two cells.
 fn small_runs<S: Store>(store: S, extent: Extent, tally: &mut Tally) -> S {
     mixtures::mixtures(admissions::admissions(store, tally), extent.mixed, tally)
+}
+
+// Takes a layer apart. The store below then has the layer's cells.
+fn take_apart<S: Store>(layer: WriteBack<S>, tally: &mut Tally) -> S {
+    let mut cells = [None; CELLS];
+    for (cell, number) in (0u32..).zip(cells.iter_mut()) {
+        *number = layer.get(cell);
+    }
+    let store = layer.into_store();
+    let mut kept = (0u32..).zip(cells.iter());
+    tally.expect(kept.all(|(cell, number)| store.get(cell) == *number));
+    store
 }
 
 // Small runs over every kind of store, and over layers.
@@ -64,10 +76,11 @@ fn all_small_runs(extent: Extent, tally: &mut Tally) {
     small_runs(ChangeList::new(&mut records), extent, tally);
     let mut words = [0; 2];
     let layers = WriteBack::new(WriteBack::new(WordTable::new(&mut words)));
-    small_runs(layers, extent, tally).into_store().into_store();
+    let layer = take_apart(small_runs(layers, extent, tally), tally);
+    take_apart(layer, tally);
     let mut records = [Change::default(); 3];
     let layer = WriteBack::new(ChangeList::new(&mut records));
-    small_runs(layer, extent, tally).into_store();
+    take_apart(small_runs(layer, extent, tally), tally);
 }
 
 // Long runs, likewise.
@@ -78,12 +91,11 @@ fn all_long_runs(runs: u64, tally: &mut Tally) {
     chance::long_runs(ChangeList::new(&mut records), runs, tally);
     let mut words = [0; CELLS];
     let layers = WriteBack::new(WriteBack::new(WordTable::new(&mut words)));
-    chance::long_runs(layers, runs, tally)
-        .into_store()
-        .into_store();
+    let layer = take_apart(chance::long_runs(layers, runs, tally), tally);
+    take_apart(layer, tally);
     let mut records = [Change::default(); CELLS + 1];
     let layer = WriteBack::new(ChangeList::new(&mut records));
-    chance::long_runs(layer, runs, tally).into_store();
+    take_apart(chance::long_runs(layer, runs, tally), tally);
 }
 
 fn main(rt: HostRuntime) -> anyhow::Result<ExitCode> {
