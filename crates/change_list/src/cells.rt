@@ -25,12 +25,13 @@ impl<'a> Store for ChangeList<'a> {
         Some(number.unwrap_or(0))
     }
 
-    // Adds a record. Where none is free, only the newest record of each cell is kept first.
+    // Adds a record. Where none is free, only the newest record of each cell is kept first. No other record changes.
     fn set(&mut self, cell: u32, number: u32) -> bool
         ensures answer { result ≡ nat_lt cell (length (cells_of self.old)) }
         ensures after { cells_of self.new ≡ slice_set (cells_of self.old) cell number }
         ensures same { self.new.records.ghost_name ∷ [] ≡ self.old.records.ghost_name ∷ [] }
         ensures records { in_force self.new ≡ (if result then with_record (records_of self.old) (in_force self.old) cell number else in_force self.old) }
+        ensures others { drop self.new.used self.new.records.now ≡ drop self.new.used self.old.records.now }
     {
         if cell as usize >= self.count() {
             return false;
@@ -64,6 +65,7 @@ impl ChangeList<'_> {
         ensures kept { in_force self.new ≡ with_room (records_of self.old) (in_force self.old) }
         ensures room { self.new.used < records_of self.new }
         ensures length { records_of self.new ≡ records_of self.old }
+        ensures others { drop self.new.used self.new.records.now ≡ drop self.new.used self.old.records.now }
         ensures loan { self.new.records.ghost_name ≡ self.old.records.ghost_name }
     {
         if self.used < self.records.len() {

@@ -1,5 +1,5 @@
-use Rattle.std.proofs.Common.{◌≡◌, ◌+◌, ◌<◌, length, get_or, take, drop, sym, ap, ◌∙◌, arith, length-set}
-use Rattle.std.proofs.lemmas.List.{length-take-le}
+use Rattle.std.proofs.Common.{◌≡◌, ℕ, List, set, ◌+◌, ◌<◌, length, get_or, take, drop, sym, ap, ◌∙◌, arith, length-set}
+use Rattle.std.proofs.lemmas.List.{length-take-le, drop-drop, drop-set-lt}
 use Rattle.std.proofs.lemmas.Bool.{not-true, not-false}
 use Rattle.store.specs.declared.change.Change.{Change}
 use Rattle.store.specs.Changes.{touches}
@@ -15,6 +15,11 @@ returns-then-self-clause-kept c =
     let records = list.records.now in
     sym (room_left (length records) (take list.used records) (omega (arith, length-take-le list.used records list.within)))
 
+-- A record that is kept changes no later one.
+later : (records entry : List Change) (i len : ℕ) (none : Change) → drop len records ≡ drop len entry → drop (len + 1) (set records len (get_or records i none)) ≡ drop (len + 1) entry
+later records entry i len none e =
+    drop-set-lt (len + 1) records len (get_or records i none) (omega arith) ∙ (sym (drop-drop 1 len records) ∙ (ap (drop 1) e ∙ drop-drop 1 len entry))
+
 pub loop-i-preserved : goal.loop-i-preserved
 loop-i-preserved c =
     let list = c.loop-i.self in
@@ -23,6 +28,7 @@ loop-i-preserved c =
     let len = c.loop-i.len in
     let inv = c.loop-i.invariant in
     let none : Change = record { cell = 0; number = 0 } in
+    let entry = c.args.self.now.records.now in
     let again = touches (drop (i + 1) (take list.used records)) (get_or records i none).cell in
     elim c.if-is_newest.branch [
       | then-is_newest w ↦
@@ -31,7 +37,8 @@ loop-i-preserved c =
             length-set records len (get_or records i none) ∙ inv.1,
             inv.2,
             omega arith,
-            turn_keeps records list.used i len none list.within (omega arith) inv.3 (not-true again (sym c.is_newest.ensures ∙ w.if-is_newest.true)) ∙ inv.4,
+            later records entry i len none inv.4,
+            turn_keeps records list.used i len none list.within (omega arith) inv.3 (not-true again (sym c.is_newest.ensures ∙ w.if-is_newest.true)) ∙ inv.5,
           )
       | else-is_newest w ↦
           rw (w.self-is, w.len-is) (
@@ -39,7 +46,8 @@ loop-i-preserved c =
             inv.1,
             inv.2,
             omega arith,
-            turn_leaves records list.used i len none list.within (omega arith) (not-false again (sym c.is_newest.ensures ∙ w.if-is_newest.false)) ∙ inv.4,
+            inv.4,
+            turn_leaves records list.used i len none list.within (omega arith) (not-false again (sym c.is_newest.ensures ∙ w.if-is_newest.false)) ∙ inv.5,
           )
     ]
 
@@ -56,7 +64,7 @@ over : (c : After-loop-i) → take c.loop-i.len c.loop-i.self.records.now ≡ ne
 over c =
     let list = c.loop-i.self in
     let entry = c.args.self.now in
-    loop_over list.records.now (take entry.used entry.records.now) list.used c.loop-i.i c.loop-i.len (omega arith) c.loop-i.invariant.4
+    loop_over list.records.now (take entry.used entry.records.now) list.used c.loop-i.i c.loop-i.len (omega arith) c.loop-i.invariant.5
 
 fewer : (c : After-loop-i) → c.loop-i.len < length c.loop-i.self.records.now
 fewer c =
@@ -83,4 +91,5 @@ returns c =
       room = fewer b;
       length = c.loop-i.invariant.1;
       loan = c.loop-i.invariant.2;
+      others = c.loop-i.invariant.4;
     }

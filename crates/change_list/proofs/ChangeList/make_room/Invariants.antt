@@ -10,4 +10,5 @@ invariant-loop-i l =
     × (length list.records.now ≡ length entry.records.now)
     × (list.records.ghost_name ≡ entry.records.ghost_name)
     × (l.len ≤ l.i)
+    × (drop l.len list.records.now ≡ drop l.len entry.records.now)
     × (take l.len list.records.now ++ newest (drop l.i (take list.used list.records.now)) ≡ newest (take entry.used entry.records.now))
