@@ -69,7 +69,8 @@ fn call<S: Store>(trial: &mut Trial<S>, slips: &mut Slips, random: &mut Random) 
         1 => {
             trial.turn(random.below(40));
         }
-        2..=7 => {
+        2 => stranger(trial, RUN.wrapping_add(random.below(2)), random),
+        3..=8 => {
             let place = random.below(SLIPS as u32) as usize;
             if let Some(slot) = slips.get_mut(place) {
                 correct(trial, slot, random);
@@ -128,7 +129,6 @@ fn long_run<S: Store>(store: S, random: &mut Random, tally: &mut Tally) -> S {
     for _ in 0..CALLS {
         call(&mut trial, &mut slips, random);
     }
-    stranger(&mut trial, RUN.wrapping_add(random.below(2)), random);
     withdraw_some(&mut trial, &mut slips, random);
     trial.finish();
     let store = trial.close();

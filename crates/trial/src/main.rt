@@ -48,7 +48,7 @@ const FEW: Extent = Extent {
         of_three: 3,
         of_three_corrected: 2,
     },
-    long_runs: 10,
+    long_runs: 5,
 };
 
 // Small runs over two cells.

@@ -1,4 +1,4 @@
-use crate::programs::{adder, doubler, swapper, waiter};
+use crate::programs::{adder, doubler, rereader, swapper, waiter};
 use crate::tally::Tally;
 use crate::trial::Trial;
 use job::program::Program;
@@ -160,5 +160,6 @@ pub(crate) fn mixtures<S: Store>(store: S, mixed: Mixed, tally: &mut Tally) -> S
     let store = two(store, [doubler(), doubler()], mixed, tally);
     let store = two(store, [swapper(), doubler()], mixed, tally);
     let store = two(store, [waiter(), adder()], mixed, tally);
+    let store = two(store, [rereader(), doubler()], mixed, tally);
     three(store, [waiter(), adder(), swapper()], mixed, tally)
 }

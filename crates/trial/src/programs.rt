@@ -85,6 +85,31 @@ const WAITER: [Step; 6] = [
     Step::End,
 ];
 
+// Reads cell 0, writes it, reads its own writing, and copies that to cell 1.
+const REREADER: [Step; 6] = [
+    Step::Read {
+        register: 0,
+        cell: 0,
+    },
+    Step::Load {
+        register: 1,
+        number: 3,
+    },
+    Step::Write {
+        cell: 0,
+        register: 1,
+    },
+    Step::Read {
+        register: 2,
+        cell: 0,
+    },
+    Step::Write {
+        cell: 1,
+        register: 2,
+    },
+    Step::End,
+];
+
 // How many cells the jobs by chance mostly use, so that they get in each other's way.
 const HOT_CELLS: u32 = 4;
 
@@ -101,6 +126,10 @@ pub(crate) fn doubler() -> Program {
 
 pub(crate) fn swapper() -> Program {
     Program::new(&SWAPPER).unwrap()
+}
+
+pub(crate) fn rereader() -> Program {
+    Program::new(&REREADER).unwrap()
 }
 
 pub(crate) fn waiter() -> Program {
