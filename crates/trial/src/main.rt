@@ -33,7 +33,7 @@ struct Extent {
 
 const ALL: Extent = Extent {
     mixed: Mixed {
-        of_two: 14,
+        of_two: 16,
         of_two_corrected: 8,
         of_three: 9,
         of_three_corrected: 5,
