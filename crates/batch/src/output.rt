@@ -38,7 +38,8 @@ fn run_script<S: Store>(mut store: S, script: &Script) -> Run<S>
     run
 }
 
-// What is printed of a script that runs over a write-back layer. The store below comes back, with the run's cells.
+// What is printed of a script that runs over a write-back layer. The store below comes back, with the run's cells:
+// generic code cannot let go of a store.
 fn report_over<S: Store>(heap: Global, below: S, script: &Script) -> (S, Result<String, AllocError>)
     requires { S.Store.cells below ≡ replicate (script_in script.now).count 0 }
     ensures text { IfOk result.1 (λ t. string_bytes t ≡ report_text (final_state (script_in script.now))) }

@@ -71,7 +71,7 @@ impl ChangeList<'_> {
         if self.used < self.records.len() {
             return;
         }
-        // The indices stay: the lent records are fixed memory, and no slice has a method that moves kept items to its front.
+        // By index: the lent records are fixed memory, and no slice has a method that moves kept items to its front.
         let mut len = 0;
         for i in 0..self.used {
             if self.is_newest(i) {

@@ -135,8 +135,8 @@ fn correct_in_time<S: Store>(rt: &impl Print, run: &mut Run<S>, job: u32) -> io:
     told.and(looked).and(wrote).and(played).and(filed)
 }
 
-// A correction that the desk thinks better of.
-fn think_better<S: Store>(rt: &impl Print, run: &mut Run<S>) -> io::Result<()> {
+// A correction that is withdrawn.
+fn open_and_withdraw<S: Store>(rt: &impl Print, run: &mut Run<S>) -> io::Result<()> {
     let Ok(slip) = run.open_correction() else {
         return Ok(());
     };
@@ -163,7 +163,7 @@ fn print_run<S: Store>(rt: &impl Print, run: &mut Run<S>, jobs: [u32; 2]) -> io:
     let [first, second] = jobs;
     correct_too_late(rt, run, first)?;
     correct_in_time(rt, run, second)?;
-    think_better(rt, run)?;
+    open_and_withdraw(rt, run)?;
     play(rt, run, second, MOST_TURNS)?;
     print_order(rt, run)
 }

@@ -1,4 +1,4 @@
-// Where a reader stands: how many bytes and lines stand before it, the lines counted from 1.
+// Where a reader stands: how many bytes stand before it, and the number of the next line, from 1.
 #[derive(Clone, Copy)]
 pub struct Place {
     pub(crate) at: usize,

@@ -1,12 +1,9 @@
+use crate::bounds::{MOST_JOBS, MOST_STEPS, RUN};
 use crate::programs::adder;
 use crate::tally::Tally;
 use model::{Fault, Refusal, Step};
 use run::intake::Intake;
 use store::Store;
-
-const MOST_JOBS: u32 = 16;
-
-const MOST_STEPS: usize = 24;
 
 // Steps that are not admitted, and why.
 #[derive(Drop)]
@@ -76,21 +73,31 @@ fn admit<S: Store>(
     }
 }
 
-// What is not admitted uses no number: the jobs that are admitted afterwards are numbered from 1, up to 16.
-pub(crate) fn admissions<S: Store>(store: S, tally: &mut Tally) -> S {
-    let cells = store.count() as u32;
-    let mut intake = Intake::new(store, 1);
+// Tries what is not admitted, which uses no number.
+fn refuse_all<S: Store>(intake: &mut Intake<S>, cells: u32, tally: &mut Tally) {
     let none = Err(fault(Refusal::StepCount, 0, 0));
-    admit(&mut intake, &[], none, tally);
-    admit(&mut intake, &[Step::End; MOST_STEPS + 1], none, tally);
+    admit(intake, &[], none, tally);
+    admit(intake, &[Step::End; MOST_STEPS + 1], none, tally);
     for case in &cases(cells) {
-        admit(&mut intake, &case.steps, Err(case.fault), tally);
+        admit(intake, &case.steps, Err(case.fault), tally);
     }
-    for job in 1..=MOST_JOBS {
-        admit(&mut intake, adder().steps(), Ok(job), tally);
+}
+
+// Admits as many jobs as a run may have, and then one more.
+fn admit_most<S: Store>(intake: &mut Intake<S>, tally: &mut Tally) {
+    for job in 1..=MOST_JOBS as u32 {
+        admit(intake, adder().steps(), Ok(job), tally);
     }
     let many = Err(fault(Refusal::TooManyJobs, 0, 0));
-    admit(&mut intake, adder().steps(), many, tally);
+    admit(intake, adder().steps(), many, tally);
+}
+
+// Admissions to a run over the store.
+pub(crate) fn admissions<S: Store>(store: S, tally: &mut Tally) -> S {
+    let cells = store.count() as u32;
+    let mut intake = Intake::new(store, RUN);
+    refuse_all(&mut intake, cells, tally);
+    admit_most(&mut intake, tally);
     tally.runs = tally.runs.wrapping_add(1);
     intake.seal().close()
 }

@@ -1,16 +1,16 @@
-use crate::replay::{Access, Accesses, Notes};
+use crate::bounds::MOST_ENTRIES;
+use crate::replay::{Access, Accesses, Numbers};
 use model::Refusal;
-
-// How many cells a log may name.
-const MOST_ENTRIES: usize = 24;
 
 // What a correction has read and written so far, by what it was answered.
 #[derive(Drop)]
 pub(crate) struct Correction {
     pub(crate) is_open: bool,
-    pub(crate) reads: Notes,
-    writes: Notes,
-    pub(crate) accesses: Accesses,
+    pub(crate) reads: Numbers,
+    writes: Numbers,
+    // What was read and written, in order, unless there was more than is kept.
+    accesses: Accesses,
+    is_whole: bool,
 }
 
 // Fills the places of a list of corrections.
@@ -24,9 +24,21 @@ impl Correction {
     pub(crate) fn new() -> Correction {
         Correction {
             is_open: true,
-            reads: Notes::new(),
-            writes: Notes::new(),
+            reads: Numbers::new(),
+            writes: Numbers::new(),
             accesses: Accesses::new(),
+            is_whole: true,
+        }
+    }
+
+    // What was read and written, in order, if all of it was kept.
+    pub(crate) fn accesses(&self) -> Option<&[Access]> {
+        self.is_whole.then_some(self.accesses.as_slice())
+    }
+
+    fn keep(&mut self, access: Access) {
+        if self.accesses.try_push(access).is_err() {
+            self.is_whole = false;
         }
     }
 
@@ -41,7 +53,7 @@ impl Correction {
                 stored
             }
         };
-        let _ = self.accesses.try_push(Access::Read { cell, number });
+        self.keep(Access::Read { cell, number });
         Ok(number)
     }
 
@@ -52,12 +64,12 @@ impl Correction {
         number: u32,
         stored: Result<u32, Refusal>,
     ) -> Result<(), Refusal> {
-        let _ = stored?;
+        stored?;
         if self.writes.get(cell).is_none() && self.writes.len() >= MOST_ENTRIES {
             return Err(Refusal::LogFull);
         }
         self.writes.put(cell, number);
-        let _ = self.accesses.try_push(Access::Write { cell, number });
+        self.keep(Access::Write { cell, number });
         Ok(())
     }
 }

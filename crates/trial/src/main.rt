@@ -3,7 +3,10 @@
 // tries less, which is enough to be run without proofs.
 #![tactic(auto)]
 
+ghost use Rattle.std.specs.Prelude.{◌≤◌};
+
 mod admissions;
+mod bounds;
 mod chance;
 mod corrections;
 mod mixtures;
@@ -13,9 +16,9 @@ mod replay;
 mod tally;
 mod trial;
 
+use bounds::CELLS;
 use change_list::ChangeList;
-use mixtures::Mixed;
-use replay::CELLS;
+use mixtures::MixedTurns;
 use std::env;
 use std::process::ExitCode;
 use store::Store;
@@ -24,36 +27,53 @@ use store::word_table::WordTable;
 use tally::Tally;
 use write_back::WriteBack;
 
-// How much is tried over each kind of store.
+// What is tried over one store.
 #[derive(Clone, Copy)]
-struct Extent {
-    mixed: Mixed,
-    long_runs: u64,
+enum Part {
+    // Admissions and small runs, over two cells.
+    Small(MixedTurns),
+    // So many long runs, over all cells.
+    Long(u64),
 }
 
-const ALL: Extent = Extent {
-    mixed: Mixed {
+const ALL: [Part; 2] = [
+    Part::Small(MixedTurns {
         of_two: 16,
         of_two_corrected: 8,
         of_three: 9,
         of_three_corrected: 5,
-    },
-    long_runs: 400,
-};
+    }),
+    Part::Long(400),
+];
 
-const FEW: Extent = Extent {
-    mixed: Mixed {
-        of_two: 7,
+const FEW: [Part; 2] = [
+    Part::Small(MixedTurns {
+        of_two: 6,
         of_two_corrected: 6,
         of_three: 3,
-        of_three_corrected: 2,
-    },
-    long_runs: 5,
-};
+        of_three_corrected: 1,
+    }),
+    Part::Long(4),
+];
 
-// Small runs over two cells.
-fn small_runs<S: Store>(store: S, extent: Extent, tally: &mut Tally) -> S {
-    mixtures::mixtures(admissions::admissions(store, tally), extent.mixed, tally)
+impl Part {
+    fn cells(self) -> usize
+        ensures { result ≤ 40 }
+    {
+        match self {
+            Part::Small(_) => 2,
+            Part::Long(_) => CELLS,
+        }
+    }
+
+    fn over<S: Store>(self, store: S, tally: &mut Tally) -> S {
+        match self {
+            Part::Small(mixed) => {
+                mixtures::mixtures(admissions::admissions(store, tally), mixed, tally)
+            }
+            Part::Long(runs) => chance::long_runs(store, runs, tally),
+        }
+    }
 }
 
 // Takes a layer apart. The store below then has the layer's cells.
@@ -68,46 +88,35 @@ fn take_apart<S: Store>(layer: WriteBack<S>, tally: &mut Tally) -> S {
     store
 }
 
-// Small runs over every kind of store, and over layers.
-fn all_small_runs(extent: Extent, tally: &mut Tally) {
-    let mut words = [0; 2];
-    small_runs(WordTable::new(&mut words), extent, tally);
-    let mut records = [Change::default(); 3];
-    small_runs(ChangeList::new(&mut records), extent, tally);
-    let mut words = [0; 2];
-    let layers = WriteBack::new(WriteBack::new(WordTable::new(&mut words)));
-    let layer = take_apart(small_runs(layers, extent, tally), tally);
-    take_apart(layer, tally);
-    let mut records = [Change::default(); 3];
-    let layer = WriteBack::new(ChangeList::new(&mut records));
-    take_apart(small_runs(layer, extent, tally), tally);
-}
-
-// Long runs, likewise.
-fn all_long_runs(runs: u64, tally: &mut Tally) {
+// A part over every kind of store, and over layers.
+fn over_every_store(part: Part, tally: &mut Tally) {
+    let cells = part.cells();
     let mut words = [0; CELLS];
-    chance::long_runs(WordTable::new(&mut words), runs, tally);
+    part.over(WordTable::new(&mut words[..cells]), tally);
     let mut records = [Change::default(); CELLS + 1];
-    chance::long_runs(ChangeList::new(&mut records), runs, tally);
+    part.over(ChangeList::new(&mut records[..cells + 1]), tally);
     let mut words = [0; CELLS];
-    let layers = WriteBack::new(WriteBack::new(WordTable::new(&mut words)));
-    let layer = take_apart(chance::long_runs(layers, runs, tally), tally);
+    let table = WordTable::new(&mut words[..cells]);
+    let layers = part.over(WriteBack::new(WriteBack::new(table)), tally);
+    let layer = take_apart(layers, tally);
     take_apart(layer, tally);
     let mut records = [Change::default(); CELLS + 1];
-    let layer = WriteBack::new(ChangeList::new(&mut records));
-    take_apart(chance::long_runs(layer, runs, tally), tally);
+    let list = ChangeList::new(&mut records[..cells + 1]);
+    let layer = part.over(WriteBack::new(list), tally);
+    take_apart(layer, tally);
 }
 
 fn main(rt: HostRuntime) -> anyhow::Result<ExitCode> {
     let mut args = env::args(&rt)?;
     let _program = args.next();
-    let extent = match args.next() {
+    let parts = match args.next() {
         Some(word) if word.as_str() == "few" => FEW,
         _ => ALL,
     };
     let mut tally = Tally::new();
-    all_small_runs(extent, &mut tally);
-    all_long_runs(extent.long_runs, &mut tally);
+    for part in &parts {
+        over_every_store(*part, &mut tally);
+    }
     tally.print(&rt)?;
     if tally.disagreements == 0 {
         Ok(ExitCode::SUCCESS)

@@ -1,5 +1,5 @@
+use crate::bounds::CELLS;
 use crate::random::Random;
-use crate::replay::CELLS;
 use job::program::Program;
 use model::Step;
 
@@ -137,7 +137,7 @@ pub(crate) fn waiter() -> Program {
 }
 
 // A cell that many use, and now and then any other.
-pub(crate) fn cell(random: &mut Random) -> u32 {
+pub(crate) fn used_cell(random: &mut Random) -> u32 {
     if random.below(16) == 0 {
         random.below(CELLS as u32)
     } else {
@@ -149,7 +149,7 @@ pub(crate) fn cell(random: &mut Random) -> u32 {
 fn step(random: &mut Random, place: u32, later: u32) -> Step {
     let register = random.below(8);
     let other = random.below(8);
-    let cell = cell(random);
+    let cell = used_cell(random);
     match random.below(12) {
         0..=3 => Step::Read { register, cell },
         4..=6 => Step::Write { cell, register },

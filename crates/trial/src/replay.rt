@@ -1,23 +1,21 @@
+use crate::bounds::CELLS;
 use arrayvec::ArrayVec;
 use model::Step;
-
-// How many cells the stores of a trial have at most: more than a log may name and more than a layer holds.
-pub(crate) const CELLS: usize = 40;
 
 const REGISTERS: usize = 8;
 
 // How many readings and writings of one correction are kept.
-pub(crate) const MOST_ACCESSES: usize = 64;
+const MOST_ACCESSES: usize = 96;
 
-// The cells of a store, or the numbers that are noted for some of them.
+// Numbers of cells: of all cells of a store, or of some.
 #[derive(Clone, Copy)]
-pub(crate) struct Notes {
+pub(crate) struct Numbers {
     numbers: [Option<u32>; CELLS],
 }
 
-impl Notes {
-    pub(crate) fn new() -> Notes {
-        Notes {
+impl Numbers {
+    pub(crate) fn new() -> Numbers {
+        Numbers {
             numbers: [None; CELLS],
         }
     }
@@ -27,20 +25,23 @@ impl Notes {
     }
 
     pub(crate) fn put(&mut self, cell: u32, number: u32) {
-        if let Some(noted) = self.numbers.get_mut(cell as usize) {
-            *noted = Some(number);
+        if let Some(slot) = self.numbers.get_mut(cell as usize) {
+            *slot = Some(number);
         }
     }
 
-    // How many cells are noted.
+    // How many cells have a number here.
     pub(crate) fn len(&self) -> usize {
-        self.numbers.iter().filter(|noted| noted.is_some()).count()
+        self.numbers
+            .iter()
+            .filter(|number| number.is_some())
+            .count()
     }
 
-    // Puts all that the other notes.
-    fn put_all(&mut self, other: &Notes) {
-        for (number, noted) in self.numbers.iter_mut().zip(other.numbers.iter()) {
-            *number = noted.or(*number);
+    // Puts all numbers that the other has.
+    fn put_all(&mut self, other: &Numbers) {
+        for (number, newer) in self.numbers.iter_mut().zip(other.numbers.iter()) {
+            *number = newer.or(*number);
         }
     }
 }
@@ -64,8 +65,9 @@ pub(crate) type Accesses = ArrayVec<Access, MOST_ACCESSES>;
 // Plays a commit order alone: one entry after the other on its cells, with no turns, no marks and no right.
 #[derive(Clone, Copy)]
 pub(crate) struct Player {
-    pub(crate) cells: Notes,
-    notes: Notes,
+    pub(crate) cells: Numbers,
+    // What the entry has written so far.
+    writes: Numbers,
     registers: [u32; REGISTERS],
 }
 
@@ -79,17 +81,17 @@ pub(crate) enum Ending {
 }
 
 impl Player {
-    pub(crate) fn new(cells: Notes) -> Player {
+    pub(crate) fn new(cells: Numbers) -> Player {
         Player {
             cells,
-            notes: Notes::new(),
+            writes: Numbers::new(),
             registers: [0; REGISTERS],
         }
     }
 
-    // The number that a reading gives: from the notes, else from the cell.
+    // The number that a reading gives: the entry's own, else the cell's.
     fn read(&self, cell: u32) -> u32 {
-        self.notes.get(cell).or(self.cells.get(cell)).unwrap_or(0)
+        self.writes.get(cell).or(self.cells.get(cell)).unwrap_or(0)
     }
 
     fn at(&self, register: u32) -> u32 {
@@ -102,10 +104,10 @@ impl Player {
         }
     }
 
-    // The notes go into the cells.
+    // What was written goes into the cells.
     fn end(&mut self) -> Ending {
-        self.cells.put_all(&self.notes);
-        Ending::Ends(self.notes.len())
+        self.cells.put_all(&self.writes);
+        Ending::Ends(self.writes.len())
     }
 
     // The register that a step changes, and the number that it gets.
@@ -119,7 +121,7 @@ impl Player {
             Step::Subtract { register, other } => {
                 Some((register, self.at(register).wrapping_sub(self.at(other))))
             }
-            _ => None,
+            Step::Write { .. } | Step::JumpIfLess { .. } | Step::Wait | Step::End => None,
         }
     }
 
@@ -131,7 +133,7 @@ impl Player {
         match step {
             Step::Write { cell, register } => {
                 let number = self.at(register);
-                self.notes.put(cell, number);
+                self.writes.put(cell, number);
                 next
             }
             Step::JumpIfLess {
@@ -139,13 +141,19 @@ impl Player {
                 other,
                 step,
             } if self.at(register) < self.at(other) => (step as usize).saturating_sub(1),
-            _ => next,
+            Step::JumpIfLess { .. }
+            | Step::Read { .. }
+            | Step::Load { .. }
+            | Step::Add { .. }
+            | Step::Subtract { .. }
+            | Step::Wait
+            | Step::End => next,
         }
     }
 
     // Plays a job: its steps from the first on.
     pub(crate) fn job(&mut self, steps: &[Step]) -> Ending {
-        self.notes = Notes::new();
+        self.writes = Numbers::new();
         self.registers = [0; REGISTERS];
         let mut place = 0;
         for _ in 0..steps.len() {
@@ -160,12 +168,12 @@ impl Player {
 
     // Plays a correction, and answers None where it reads another number than was answered.
     pub(crate) fn correction(&mut self, accesses: &[Access]) -> Option<Ending> {
-        self.notes = Notes::new();
+        self.writes = Numbers::new();
         for access in accesses {
             match *access {
                 Access::Read { cell, number } if self.read(cell) != number => return None,
                 Access::Read { .. } => {}
-                Access::Write { cell, number } => self.notes.put(cell, number),
+                Access::Write { cell, number } => self.writes.put(cell, number),
             }
         }
         Some(self.end())

@@ -1,17 +1,14 @@
+use crate::bounds::{CELLS, MOST_CORRECTIONS, MOST_JOBS, RUN};
 use crate::corrections::Correction;
-use crate::replay::{CELLS, Ending, Notes, Player};
+use crate::replay::{Ending, Numbers, Player};
 use crate::tally::Tally;
 use arrayvec::ArrayVec;
 use job::program::Program;
-use model::{Party, Refusal, Rule};
+use model::{Applied, Party, Refusal, Rule};
 use run::intake::Intake;
 use run::run::Run;
 use run::slip::{Slip, Unfiled};
 use store::Store;
-
-const MOST_JOBS: usize = 16;
-
-const MOST_CORRECTIONS: usize = 8;
 
 // More turns than a job can use that nobody disturbs.
 const MOST_TURNS: usize = 400;
@@ -20,14 +17,16 @@ const MOST_TURNS: usize = 400;
 pub(crate) struct Trial<'a, S: Store> {
     run: Run<S>,
     tally: &'a mut Tally,
-    number: u32,
     programs: &'a [Program],
+    // How many cells there are.
+    count: u32,
     player: Player,
     // How many entries of the commit order were played, and how many cells these set.
     played: u32,
-    set: usize,
+    cells_set: usize,
     corrections: ArrayVec<Correction, MOST_CORRECTIONS>,
-    right_held: bool,
+    // The job that holds the commit right.
+    right: Option<u32>,
     starts: [u32; MOST_JOBS],
 }
 
@@ -35,26 +34,27 @@ impl<'a, S: Store> Trial<'a, S> {
     // A run of these programs over the store, whose cells hold these numbers first.
     pub(crate) fn new(
         mut store: S,
-        number: u32,
         programs: &'a [Program],
         cells: &[u32],
         tally: &'a mut Tally,
     ) -> Trial<'a, S> {
-        let mut first = Notes::new();
+        let mut first = Numbers::new();
+        let mut count = 0u32;
         for (cell, number) in (0u32..).zip(cells.iter()) {
-            store.set(cell, *number);
+            tally.expect(store.set(cell, *number));
             first.put(cell, *number);
+            count = count.wrapping_add(1);
         }
         Trial {
-            run: sealed(store, number, programs, tally),
+            run: sealed(store, programs, tally),
             tally,
-            number,
             programs,
+            count,
             player: Player::new(first),
             played: 0,
-            set: 0,
+            cells_set: 0,
             corrections: ArrayVec::new(),
-            right_held: false,
+            right: None,
             starts: [0; MOST_JOBS],
         }
     }
@@ -66,57 +66,80 @@ impl<'a, S: Store> Trial<'a, S> {
         match self.run.turn(job) {
             Ok(applied) => {
                 self.tally.expect(known);
-                if let Some(applied) = applied {
-                    self.applied(job, applied.rule);
-                }
-                self.check();
+                let joins = self.note_rule(job, applied);
+                self.check(joins);
                 applied.is_some()
             }
             Err(refusal) => {
                 self.tally.expect(!known && refusal == Refusal::NoSuchJob);
-                self.told(Some(refusal));
+                self.after_call(Some(refusal));
                 false
             }
         }
     }
 
-    // Keeps who has started and whether the right is held.
-    fn applied(&mut self, job: u32, rule: Rule) {
-        match rule {
+    // Keeps who has started and who holds the right. Answers who joins the commit order.
+    fn note_rule(&mut self, job: u32, applied: Option<Applied>) -> Option<Party> {
+        match applied?.rule {
             Rule::S3 => {
                 let place = (job as usize).wrapping_sub(1);
                 if let Some(starts) = self.starts.get_mut(place) {
                     *starts = starts.wrapping_add(1);
                 }
+                None
             }
-            Rule::V3 => self.right_held = true,
-            Rule::C3 => self.right_held = false,
-            _ => {}
+            Rule::V3 => {
+                self.tally.expect(self.right.is_none());
+                self.right = Some(job);
+                None
+            }
+            Rule::C3 => {
+                self.tally.expect(self.right == Some(job));
+                self.right = None;
+                Some(Party::Job(job))
+            }
+            _ => None,
         }
     }
 
     pub(crate) fn settle(&mut self) {
+        let joins = self.right.take().map(Party::Job);
         self.run.settle();
-        self.right_held = false;
-        self.check();
+        self.check(joins);
     }
 
-    // Plays what has joined the commit order. While the right is free, cells and counters are what the play leaves.
-    fn check(&mut self) {
-        for place in self.played..self.run.commits() as u32 {
-            if let Some(party) = self.run.entry(place.wrapping_add(1)) {
-                self.play(party);
-            }
+    // Counts a refusal, if there was one, and checks what a call has left that adds nothing to the commit order.
+    fn after_call(&mut self, refusal: Option<Refusal>) {
+        if let Some(refusal) = refusal {
+            self.tally.refused(refusal);
         }
-        self.played = self.run.commits() as u32;
-        if !self.right_held {
-            let cells = (0..self.run.count() as u32).all(|cell| self.run.cell(cell).ok()
-                == self.player.cells.get(cell));
-            self.tally.expect(cells);
-            self.tally.expect(
-                self.run.takings() == self.played && self.run.settings() as usize == self.set,
-            );
+        self.check(None);
+    }
+
+    // Plays who has joined the commit order, which is to be this party, or nobody. While the right is free, cells and
+    // counters are what the play leaves.
+    fn check(&mut self, joins: Option<Party>) {
+        let next = self.played.wrapping_add(1);
+        self.tally.expect(self.run.entry(next) == joins);
+        if let Some(party) = joins {
+            self.play(party);
+            self.played = next;
         }
+        self.tally
+            .expect(self.run.commits() == self.played as usize);
+        if self.right.is_none() {
+            self.check_cells();
+        }
+    }
+
+    fn check_cells(&mut self) {
+        let cells = (0..self.count).all(|cell| self.run.cell(cell).ok()
+            == self.player.cells.get(cell));
+        self.tally
+            .expect(cells && self.run.count() == self.count as usize);
+        self.tally.expect(self.run.takings() == self.played);
+        self.tally
+            .expect(self.run.settings() as usize == self.cells_set);
     }
 
     // Plays one entry of the commit order: it ends, and reads what it was answered.
@@ -126,7 +149,7 @@ impl<'a, S: Store> Trial<'a, S> {
             Party::Correction(correction) => self.play_correction(correction),
         };
         match ending {
-            Some(Ending::Ends(set)) => self.set = self.set.wrapping_add(set),
+            Some(Ending::Ends(set)) => self.cells_set = self.cells_set.wrapping_add(set),
             _ => self.tally.expect(false),
         }
         self.tally.commits = self.tally.commits.wrapping_add(1);
@@ -134,7 +157,7 @@ impl<'a, S: Store> Trial<'a, S> {
 
     fn play_correction(&mut self, correction: u32) -> Option<Ending> {
         let correction = self.corrections.get((correction as usize).wrapping_sub(1))?;
-        self.player.correction(correction.accesses.as_slice())
+        self.player.correction(correction.accesses()?)
     }
 
     fn play_job(&mut self, job: u32) -> Option<Ending> {
@@ -144,8 +167,8 @@ impl<'a, S: Store> Trial<'a, S> {
 }
 
 // The run of these programs. Each is admitted under the next number.
-fn sealed<S: Store>(store: S, number: u32, programs: &[Program], tally: &mut Tally) -> Run<S> {
-    let mut intake = Intake::new(store, number);
+fn sealed<S: Store>(store: S, programs: &[Program], tally: &mut Tally) -> Run<S> {
+    let mut intake = Intake::new(store, RUN);
     for (job, program) in (1u32..).zip(programs.iter()) {
         tally.expect(intake.admit(program.steps()) == Ok(job));
     }
@@ -156,20 +179,20 @@ fn sealed<S: Store>(store: S, number: u32, programs: &[Program], tally: &mut Tal
 impl<'a, S: Store> Trial<'a, S> {
     // Opens a correction, if there is room for one more.
     pub(crate) fn open(&mut self) -> Option<Slip> {
-        let fits = !self.corrections.is_full();
+        let fits = self.corrections.try_push(Correction::new()).is_ok();
         match self.run.open_correction() {
             Ok(slip) => {
-                let _ = self.corrections.try_push(Correction::new());
                 let next = self.corrections.len() as u32;
-                self.tally.expect(fits && slip.run() == self.number && slip.correction() == next);
+                self.tally
+                    .expect(fits && slip.run() == RUN && slip.correction() == next);
                 self.tally.corrections = self.tally.corrections.wrapping_add(1);
-                self.told(None);
+                self.after_call(None);
                 Some(slip)
             }
             Err(refusal) => {
                 self.tally
                     .expect(!fits && refusal == Refusal::TooManyCorrections);
-                self.tally.refused(refusal);
+                self.after_call(Some(refusal));
                 None
             }
         }
@@ -178,7 +201,7 @@ impl<'a, S: Store> Trial<'a, S> {
     // The correction that a slip stands for, if it is open.
     fn correction(&mut self, slip: &Slip) -> Result<&mut Correction, Refusal> {
         let place = (slip.correction() as usize).wrapping_sub(1);
-        if slip.run() != self.number {
+        if slip.run() != RUN {
             return Err(Refusal::NotOpen);
         }
         match self.corrections.get_mut(place) {
@@ -187,32 +210,40 @@ impl<'a, S: Store> Trial<'a, S> {
         }
     }
 
+    // The number of a cell, which only the run can tell while a commit is under way.
+    fn stored(&self, cell: u32) -> Result<u32, Refusal> {
+        if cell >= self.count {
+            return Err(Refusal::NoSuchCell);
+        }
+        self.run.cell(cell)
+    }
+
     pub(crate) fn read(&mut self, slip: &Slip, cell: u32) {
-        let stored = self.run.cell(cell);
+        let stored = self.stored(cell);
         let expected = self
             .correction(slip)
             .and_then(|open| open.read(cell, stored));
         let answer = self.run.read(slip, cell);
         self.tally.expect(answer == expected);
-        self.told(answer.err());
+        self.after_call(answer.err());
     }
 
     pub(crate) fn write(&mut self, slip: &Slip, cell: u32, number: u32) {
-        let stored = self.run.cell(cell);
+        let stored = self.stored(cell);
         let expected = self
             .correction(slip)
             .and_then(|open| open.write(cell, number, stored));
         let answer = self.run.write(slip, cell, number);
         self.tally.expect(answer == expected);
-        self.told(answer.err());
+        self.after_call(answer.err());
     }
 
     // What filing is to answer.
     fn filing(&mut self, slip: &Slip) -> Result<(), Refusal> {
-        let right_held = self.right_held;
+        let right = self.right;
         let cells = self.player.cells;
         let correction = self.correction(slip)?;
-        if right_held {
+        if right.is_some() {
             return Err(Refusal::RightHeld);
         }
         let changed = (0..CELLS as u32).find(|cell| {
@@ -222,8 +253,9 @@ impl<'a, S: Store> Trial<'a, S> {
         changed.map_or(Ok(()), |cell| Err(Refusal::Changed { cell }))
     }
 
-    // Files a correction. Refused, the slip comes back.
+    // Files a correction, which joins the commit order. Refused, the slip comes back.
     pub(crate) fn file(&mut self, slip: Slip) -> Option<Slip> {
+        let party = Party::Correction(slip.correction());
         let expected = self.filing(&slip);
         if expected.is_ok() {
             let _ = self.close_correction(&slip);
@@ -231,12 +263,12 @@ impl<'a, S: Store> Trial<'a, S> {
         match self.run.file(slip) {
             Ok(()) => {
                 self.tally.expect(expected == Ok(()));
-                self.told(None);
+                self.check(Some(party));
                 None
             }
             Err(Unfiled { slip, refusal }) => {
                 self.tally.expect(expected == Err(refusal));
-                self.told(Some(refusal));
+                self.after_call(Some(refusal));
                 Some(slip)
             }
         }
@@ -247,7 +279,7 @@ impl<'a, S: Store> Trial<'a, S> {
         let expected = self.close_correction(&slip);
         let answer = self.run.withdraw(slip);
         self.tally.expect(answer == expected);
-        self.told(answer.err());
+        self.after_call(answer.err());
     }
 
     fn close_correction(&mut self, slip: &Slip) -> Result<(), Refusal> {
@@ -255,61 +287,56 @@ impl<'a, S: Store> Trial<'a, S> {
         correction.is_open = false;
         Ok(())
     }
-
-    // Counts a refusal, if there was one, and checks what the call has left.
-    fn told(&mut self, refusal: Option<Refusal>) {
-        if let Some(refusal) = refusal {
-            self.tally.refused(refusal);
-        }
-        self.check();
-    }
 }
 
 // The end of a run.
 impl<'a, S: Store> Trial<'a, S> {
-    // Gives each job turns until it has none left, one after the other.
+    // Gives all jobs turns until none has a rule that fits. A commit may wake a job, so there are as many rounds as jobs,
+    // and one more.
     pub(crate) fn finish(&mut self) {
         self.settle();
-        for job in 1..=self.run.jobs() as u32 {
-            self.drive(job);
+        self.tally.expect(self.run.jobs() == self.programs.len());
+        for _ in 0..=self.programs.len() {
+            self.drive_all();
         }
+        self.check_waiting();
         self.check_starts();
     }
 
-    // Closes the run. The store that comes back holds what the play leaves.
-    pub(crate) fn close(self) -> S {
-        let Trial {
-            run,
-            tally,
-            number: _,
-            programs: _,
-            player,
-            played: _,
-            set: _,
-            corrections: _,
-            right_held: _,
-            starts: _,
-        } = self;
-        let store = run.close();
-        tally.expect((0..store.count() as u32).all(|cell| store.get(cell)
-            == player.cells.get(cell)));
-        tally.runs = tally.runs.wrapping_add(1);
-        store
+    // Leaves the run as it is. A job that is in the midst of its commit is played, since closing lets it end.
+    pub(crate) fn break_off(&mut self) {
+        self.check_starts();
+        if let Some(job) = self.right {
+            self.play(Party::Job(job));
+        }
     }
 
-    // Gives a job turns until none fits. Then it has committed, or waits where its play would wait.
+    fn drive_all(&mut self) {
+        let programs = self.programs;
+        for (job, _) in (1u32..).zip(programs.iter()) {
+            self.drive(job);
+        }
+    }
+
+    // Gives a job turns until no rule fits, which is soon.
     fn drive(&mut self, job: u32) {
         for _ in 0..MOST_TURNS {
             if !self.turn(job) {
-                break;
+                return;
             }
         }
-        let done = (1..=self.played).any(|place| self.run.entry(place) == Some(Party::Job(job)));
-        if !done {
-            let before = self.player;
-            let waits = self.play_job(job) == Some(Ending::Waits);
-            self.tally.expect(waits);
-            self.player = before;
+        self.tally.expect(false);
+    }
+
+    // A job that has not committed waits when it is played alone on the cells.
+    fn check_waiting(&mut self) {
+        let programs = self.programs;
+        for (job, program) in (1u32..).zip(programs.iter()) {
+            let done = (1..=self.played).any(|place| self.run.entry(place)
+                == Some(Party::Job(job)));
+            let mut player = self.player;
+            self.tally
+                .expect(done || player.job(program.steps()) == Ending::Waits);
         }
     }
 
@@ -317,13 +344,32 @@ impl<'a, S: Store> Trial<'a, S> {
     fn check_starts(&mut self) {
         let causes = self.run.takings().wrapping_add(self.run.settings());
         for (job, starts) in (1u32..).zip(self.starts.iter().take(self.programs.len())) {
-            self.tally.expect(
-                self.run.starts(job) == Ok(*starts) && *starts <= causes.wrapping_add(1),
-            );
+            self.tally.expect(self.run.starts(job) == Ok(*starts));
+            self.tally.expect(*starts <= causes.wrapping_add(1));
             self.tally.restarts = self
                 .tally
                 .restarts
                 .wrapping_add(starts.saturating_sub(1) as u64);
         }
+    }
+
+    // Closes the run. The store that comes back holds what the play leaves.
+    pub(crate) fn close(self) -> S {
+        let Trial {
+            run,
+            tally,
+            programs: _,
+            count,
+            player,
+            played: _,
+            cells_set: _,
+            corrections: _,
+            right: _,
+            starts: _,
+        } = self;
+        let store = run.close();
+        tally.expect((0..count).all(|cell| store.get(cell) == player.cells.get(cell)));
+        tally.runs = tally.runs.wrapping_add(1);
+        store
     }
 }
