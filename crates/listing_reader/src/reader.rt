@@ -1,4 +1,4 @@
-ghost use Rattle.std.specs.Prelude.{◌≡◌, suc, ◌+◌, ◌<◌, length, IfSome, if◌then◌else◌, Some, None, nat_lt, slice_index};
+ghost use Rattle.std.specs.Prelude.{◌≡◌, suc, ◌+◌, ◌<◌, length, IfSome, MatchOption, if◌then◌else◌, Some, None, nat_lt, slice_index};
 ghost use Rattle.listing_reader.specs.Ends.{end_of, Split};
 
 use crate::place::Place;
@@ -27,10 +27,11 @@ impl Drop for PlaceGuard<'_> {
     }
 }
 
-// The byte at the place, which moves past it.
+// The byte at the place, which moves past it. Where none is left, it stays.
 fn next_byte(bytes: &[u8], place: &mut Place) -> Option<u8>
     ensures byte { result ≡ (if nat_lt place.old.at (length bytes.now) then Some (slice_index bytes.now place.old.at) else None) }
-    ensures moves { IfSome result (λ byte. place.new.at ≡ suc place.old.at) }
+    ensures moves { MatchOption result (place.new.at ≡ place.old.at) (λ byte. place.new.at ≡ suc place.old.at) }
+    ensures line { place.new.line ≡ place.old.line }
 {
     let byte = bytes.get(place.at).copied()?;
     place.at += 1;

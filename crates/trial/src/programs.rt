@@ -3,12 +3,20 @@ use crate::random::Random;
 use job::program::Program;
 use model::Step;
 
+// Reads cell 0 into register 0, and writes it back.
+const READ: Step = Step::Read {
+    register: 0,
+    cell: 0,
+};
+
+const WRITE: Step = Step::Write {
+    cell: 0,
+    register: 0,
+};
+
 // Adds one to cell 0.
 const ADDER: [Step; 5] = [
-    Step::Read {
-        register: 0,
-        cell: 0,
-    },
+    READ,
     Step::Load {
         register: 1,
         number: 1,
@@ -17,36 +25,24 @@ const ADDER: [Step; 5] = [
         register: 0,
         other: 1,
     },
-    Step::Write {
-        cell: 0,
-        register: 0,
-    },
+    WRITE,
     Step::End,
 ];
 
 // Doubles cell 0.
 const DOUBLER: [Step; 4] = [
-    Step::Read {
-        register: 0,
-        cell: 0,
-    },
+    READ,
     Step::Add {
         register: 0,
         other: 0,
     },
-    Step::Write {
-        cell: 0,
-        register: 0,
-    },
+    WRITE,
     Step::End,
 ];
 
 // Swaps cells 0 and 1.
 const SWAPPER: [Step; 5] = [
-    Step::Read {
-        register: 0,
-        cell: 0,
-    },
+    READ,
     Step::Read {
         register: 1,
         cell: 1,
@@ -64,10 +60,7 @@ const SWAPPER: [Step; 5] = [
 
 // Waits while cell 0 is not above 7, and else copies it to cell 1.
 const WAITER: [Step; 6] = [
-    Step::Read {
-        register: 0,
-        cell: 0,
-    },
+    READ,
     Step::Load {
         register: 1,
         number: 7,
@@ -87,10 +80,7 @@ const WAITER: [Step; 6] = [
 
 // Reads cell 0, writes it, reads its own writing, and copies that to cell 1.
 const REREADER: [Step; 6] = [
-    Step::Read {
-        register: 0,
-        cell: 0,
-    },
+    READ,
     Step::Load {
         register: 1,
         number: 3,
