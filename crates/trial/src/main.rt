@@ -48,8 +48,8 @@ const ALL: [Part; 2] = [
 
 const FEW: [Part; 2] = [
     Part::Small(MixedTurns {
-        of_two: 6,
-        of_two_corrected: 6,
+        of_two: 5,
+        of_two_corrected: 5,
         of_three: 3,
         of_three_corrected: 1,
     }),

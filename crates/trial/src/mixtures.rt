@@ -1,4 +1,4 @@
-use crate::programs::{adder, doubler, rereader, swapper, waiter};
+use crate::programs::{adder, copier, doubler, rereader, swapper, waiter};
 use crate::tally::Tally;
 use crate::trial::Trial;
 use job::program::Program;
@@ -184,7 +184,7 @@ fn three<S: Store>(store: S, programs: [Program; 3], mixed: MixedTurns, tally: &
 
 // All mixtures of small runs over a store.
 pub(crate) fn mixtures<S: Store>(store: S, mixed: MixedTurns, tally: &mut Tally) -> S {
-    let store = two(store, [doubler(), doubler()], mixed, tally);
+    let store = two(store, [doubler(), copier()], mixed, tally);
     let store = two(store, [swapper(), doubler()], mixed, tally);
     let store = two(store, [waiter(), adder()], mixed, tally);
     let store = two(store, [rereader(), doubler()], mixed, tally);

@@ -40,6 +40,16 @@ const DOUBLER: [Step; 4] = [
     Step::End,
 ];
 
+// Copies cell 0 to cell 1.
+const COPIER: [Step; 3] = [
+    READ,
+    Step::Write {
+        cell: 1,
+        register: 0,
+    },
+    Step::End,
+];
+
 // Swaps cells 0 and 1.
 const SWAPPER: [Step; 5] = [
     READ,
@@ -112,6 +122,10 @@ pub(crate) fn adder() -> Program {
 
 pub(crate) fn doubler() -> Program {
     Program::new(&DOUBLER).unwrap()
+}
+
+pub(crate) fn copier() -> Program {
+    Program::new(&COPIER).unwrap()
 }
 
 pub(crate) fn swapper() -> Program {
