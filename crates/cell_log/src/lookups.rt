@@ -1,7 +1,9 @@
 ghost use Rattle.std.specs.Prelude.{◌≡◌, ℕ, ◌≤◌, List, length, min};
 ghost use Rattle.model.specs.Logs.{find, lowest, any, current, changed, set_all};
 ghost use Rattle.model.specs.declared.Entry.{Entry as Logged};
+ghost use Rattle.cell_log.specs.Changes.{as_changes};
 ghost use Rattle.cell_log.specs.Rows.{entries_of};
+ghost use Rattle.store.specs.Sets.{SetsEach};
 
 use crate::log::Log;
 use crate::row::{LogRow, ROOM};
@@ -63,10 +65,11 @@ pub trait Lookups {
         first.map(|e| e.cell)
     }
 
-    // Sets every entry's cell to its number, the lowest first.
+    // Sets every entry's cell to its number, once each, the lowest first.
     final fn set_all<S: Store>(&self, store: &mut S)
         ensures after { S.Store.cells store.new ≡ set_all (list self.now) (S.Store.cells store.old) }
         ensures same { S.Store.loan store.new ≡ S.Store.loan store.old }
+        ensures each { SetsEach S.Store.sets store.old (as_changes (list self.now)) store.new }
     {
         for logged in self.entries() {
             let _ = store.set(logged.cell, logged.number);

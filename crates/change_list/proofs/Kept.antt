@@ -3,7 +3,7 @@ use Rattle.std.proofs.Common.{◌≡◌, ℕ, ◌+◌, ◌^◌, ◌<◌, ◌≤�
 use lib.Seq.{take-set-lt}
 use Rattle.std.specs.List.{AllByRecursion as All}
 use Rattle.std.proofs.ByRecursion.{All-set, All-push, All-get_or}
-use Rattle.std.proofs.lemmas.List.{get_or-take, drop_more, drop_all, drop-set-lt, take_more_set, get_or-replicate, get_or_past, length-replicate, length-take, length-take-le, append_assoc, append-nil}
+use Rattle.std.proofs.lemmas.List.{get_or-take, drop-drop, drop_more, drop_all, drop-set-lt, take_more_set, get_or-replicate, get_or_past, length-replicate, length-take, length-take-le, append_assoc, append-nil}
 use Rattle.std.proofs.lemmas.Bool.{cases_Bool, cases_lt, lt-ltb, le-ltb}
 use Rattle.store.specs.declared.change.Change.{Change}
 use Rattle.store.specs.Cells.{cell_at}
@@ -79,6 +79,10 @@ replay-room room cells cs =
     (λ (e : ltb (length cs) room ≡ true). rw e)
     (λ (e : ltb (length cs) room ≡ false). rw e (replay-newest cells cs))
     (cases_Bool (ltb (length cs) room))
+
+-- A record that is set at n changes no later one.
+pub later : (records entry : List Change) (n : ℕ) (x : Change) → drop n records ≡ drop n entry → drop (n + 1) (set records n x) ≡ drop (n + 1) entry
+later records entry n x e = drop-set-lt (n + 1) records n x (omega arith) ∙ (sym (drop-drop 1 n records) ∙ (ap (drop 1) e ∙ drop-drop 1 n entry))
 
 -- What a record does that is added to the first `used` of ys.
 pub added : (ys : List Change) (used : ℕ) (x : Change) (cs : List Change) → used < length ys → take used ys ≡ cs → take (used + 1) (set ys used x) ≡ cs ++ x ∷ []

@@ -1,7 +1,7 @@
-ghost use Rattle.std.specs.Prelude.{◌≡◌, ◌+◌, ◌<◌, not, [], ◌∷◌, length, get_or, drop, if◌then◌else◌, nat_lt, slice_set};
+ghost use Rattle.std.specs.Prelude.{◌≡◌, ◌+◌, ◌<◌, false, not, [], ◌∷◌, length, get_or, drop, nat_lt, slice_set};
 ghost use Rattle.store.specs.Changes.{touches};
-ghost use Rattle.change_list.specs.Lists.{cells_of, in_force, records_of};
-ghost use Rattle.change_list.specs.Records.{cell_count, with_record, with_room};
+ghost use Rattle.change_list.specs.Lists.{cells_of, in_force, records_of, Adds};
+ghost use Rattle.change_list.specs.Records.{cell_count, with_room};
 
 use crate::ChangeList;
 use store::change::{Change, is_changed, newest_number};
@@ -11,6 +11,8 @@ impl<'a> Store for ChangeList<'a> {
     ghost cells = { λ s. cells_of s };
 
     ghost loan = { λ s. s.records.ghost_name ∷ [] };
+
+    ghost sets = { Adds };
 
     fn count(&self) -> usize {
         // One cell fewer than there are records, so that the newest records of all cells leave one record free.
@@ -30,8 +32,8 @@ impl<'a> Store for ChangeList<'a> {
         ensures answer { result ≡ nat_lt cell (length (cells_of self.old)) }
         ensures after { cells_of self.new ≡ slice_set (cells_of self.old) cell number }
         ensures same { self.new.records.ghost_name ∷ [] ≡ self.old.records.ghost_name ∷ [] }
-        ensures records { in_force self.new ≡ (if result then with_record (records_of self.old) (in_force self.old) cell number else in_force self.old) }
-        ensures others { drop self.new.used self.new.records.now ≡ drop self.new.used self.old.records.now }
+        ensures done { Adds self.old cell number self.new }
+        ensures refused { result ≡ false → self.new ≡ self.old }
     {
         if cell as usize >= self.count() {
             return false;

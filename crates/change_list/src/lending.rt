@@ -11,6 +11,7 @@ impl<'a> ChangeList<'a> {
         ensures cells { cells_of result ≡ zeros (cell_count (length records.old)) }
         ensures records { result.records.now ≡ records.old }
         ensures loan { result.records.ghost_name ≡ records.entry.ghost_name }
+        ensures none { result.used ≡ 0 }
     {
         ChangeList { records, used: 0 }
     }

@@ -1,6 +1,8 @@
 ghost use Rattle.std.specs.Prelude.{◌≡◌, ℕ, ◌<◌, true, false, List, [], length, IfErr, OnOk};
+ghost use Rattle.cell_log.specs.Changes.{as_changes};
 ghost use Rattle.model.specs.Calls.{correction};
 ghost use Rattle.model.specs.Logs.{set_all};
+ghost use Rattle.store.specs.Sets.{SetsEach};
 ghost use Rattle.correction.specs.Corrections.{correction_of};
 ghost use Rattle.correction.specs.Calls.{Comes, reading, writing, withdrawing, Checked, Barred};
 
@@ -73,12 +75,13 @@ impl Correction {
         }
     }
 
-    // Sets every written cell and closes the correction, whose logs stay. Answers how many cells it wrote.
+    // Sets every written cell once and closes the correction, whose logs stay. Answers how many cells it wrote.
     pub fn commit<S: Store>(&mut self, store: &mut S) -> u32
         ensures count { result ≡ length (correction_of self.old).writes }
         ensures closed { correction_of self.new ≡ correction false (correction_of self.old).reads (correction_of self.old).writes }
         ensures after { S.Store.cells store.new ≡ set_all (correction_of self.old).writes (S.Store.cells store.old) }
         ensures same { S.Store.loan store.new ≡ S.Store.loan store.old }
+        ensures each { SetsEach S.Store.sets store.old (as_changes (correction_of self.old).writes) store.new }
     {
         self.logs.writes.set_all(store);
         self.is_open = false; // The logs stay.

@@ -41,7 +41,7 @@ impl<S: Store> Intake<S> {
     pub fn seal(self) -> Run<S>
         ensures sealed { state S.Store.cells result ≡ sealed (intake_of (S.Store.cells self.store) self.roster) }
         ensures lawful { Lawful (state S.Store.cells result) }
-        ensures loan { S.Store.loan result.store ≡ S.Store.loan self.store }
+        ensures store { result.store ≡ self.store }
     {
         let Intake { store, roster } = self;
         Run {

@@ -1,7 +1,8 @@
-ghost use Rattle.std.specs.Prelude.{◌≡◌};
+ghost use Rattle.std.specs.Prelude.{◌≡◌, ℕ, false, None};
 ghost use Rattle.model.specs.Calls.{turn, settle};
 ghost use Rattle.model.specs.Intake.{closed_cells, cell_answer, entry_answer, starts_answer};
 ghost use Rattle.run.specs.Runs.{state};
+ghost use Rattle.table.specs.Settings.{Through, by_c2, turn_sets};
 
 use crate::run::Run;
 use model::{Applied, Party, Refusal};
@@ -11,19 +12,26 @@ use store::Store;
 const MOST_COMMIT_TURNS: usize = 25;
 
 impl<S: Store> Run<S> {
-    // Gives a job one turn, which applies the first rule of the job's stage that fits, or answers `None`.
+    // Gives a job one turn, which applies the first rule of the job's stage that fits, or answers `None`. By c2 it sets the
+    // store once, and by no other rule at all.
     pub fn turn(&mut self, job: u32) -> Result<Option<Applied>, Refusal>
         ensures next { state S.Store.cells self.new ≡ (turn (state S.Store.cells self.old) job).next }
         ensures answer { result ≡ (turn (state S.Store.cells self.old) job).answer }
         ensures loan { S.Store.loan self.new.store ≡ S.Store.loan self.old.store }
+        ensures store { Through S.Store.sets (turn (state S.Store.cells self.old) job).events self.old.store self.new.store }
+        ensures kept { turn_sets result ≡ false → self.new.store ≡ self.old.store }
+        ensures once { (cell : ℕ) → result ≡ by_c2 cell → (number : ℕ) × S.Store.sets self.old.store cell number self.new.store }
     {
         self.table.turn(&mut self.store, job)
     }
 
-    // Gives turns to the job that holds the commit right until the right is free.
+    // Gives turns to the job that holds the commit right until the right is free. Each c2 among them sets the store once;
+    // where the right is free already, the store stays the very same.
     pub fn settle(&mut self)
         ensures next { state S.Store.cells self.new ≡ (settle (state S.Store.cells self.old)).next }
         ensures loan { S.Store.loan self.new.store ≡ S.Store.loan self.old.store }
+        ensures store { Through S.Store.sets (settle (state S.Store.cells self.old)).events self.old.store self.new.store }
+        ensures kept { (state S.Store.cells self.old).right ≡ None → self.new.store ≡ self.old.store }
     {
         // The bound stays: that the holder of the right gets on with its commit is no fact of a run's type, so by itself
         // `while let` would not be seen to end.
@@ -36,10 +44,12 @@ impl<S: Store> Run<S> {
         }
     }
 
-    // Settles, ends the run and gives its store back.
+    // Settles, ends the run and gives its store back, the very one where the right was free.
     pub fn close(mut self) -> S
         ensures cells { S.Store.cells result ≡ closed_cells (state S.Store.cells self) }
         ensures loan { S.Store.loan result ≡ S.Store.loan self.store }
+        ensures store { Through S.Store.sets (settle (state S.Store.cells self)).events self.store result }
+        ensures kept { (state S.Store.cells self).right ≡ None → result ≡ self.store }
     {
         self.settle();
         let Run { store, table: _ } = self;

@@ -25,6 +25,6 @@ pub fn turn_and_file<S: Store>(intake: Intake<S>, job: u32, slip: Slip) -> S
 // Lets go of a slip that came back, now that its run is closed.
 fn discard(filed: Result<(), Unfiled>) {
     if let Err(Unfiled { slip, refusal: _ }) = filed {
-        slip.discard();
+        let _ = slip.discard();
     }
 }

@@ -6,11 +6,14 @@
 mod checks;
 #[cfg(test)]
 mod corrected;
+pub mod kept;
 pub mod lawful;
 #[cfg(test)]
 mod outcomes;
 #[cfg(test)]
 mod programs;
+#[cfg(test)]
+mod recorded;
 #[cfg(test)]
 mod refusals;
 #[cfg(test)]

@@ -15,7 +15,7 @@ const CELLS: u32 = 26;
 const ROOM: u32 = 24;
 
 // The numbers of two runs.
-const RUN: u32 = 5;
+pub(crate) const RUN: u32 = 5;
 
 const OTHER: u32 = 6;
 
@@ -149,7 +149,7 @@ fn waits_for_the_right<S: Store>(checks: &mut Checks, run: &mut Run<S>) {
 }
 
 // The slip that a filing gives back that is refused for this.
-fn refused_filing<S: Store>(run: &mut Run<S>, slip: Slip, why: Refusal) -> Option<Slip> {
+pub(crate) fn refused_filing<S: Store>(run: &mut Run<S>, slip: Slip, why: Refusal) -> Option<Slip> {
     match run.file(slip) {
         Ok(()) => None,
         Err(Unfiled { slip, refusal }) if refusal == why => Some(slip),
@@ -202,7 +202,11 @@ fn in_two_runs(rt: HostRuntime) {
     let slip = run.open_correction().expect(&rt, "second");
     checks.that("two runs: a writing", run.write(&slip, 0, 8) == Ok(()));
     let table = run.close();
-    slip.discard();
+    let numbers = slip.discard();
+    checks.that(
+        "two runs: what the discarded slip bore",
+        numbers.run == RUN && numbers.correction == 2,
+    );
     checks.that("two runs: nothing was set", table.get(0) == Some(3));
     drop(table);
     drop(other.close());
@@ -210,7 +214,7 @@ fn in_two_runs(rt: HostRuntime) {
 }
 
 // The slip of another run, which the withdrawal spends.
-fn refuses_slip<S: Store>(checks: &mut Checks, run: &mut Run<S>, slip: Slip) {
+pub(crate) fn refuses_slip<S: Store>(checks: &mut Checks, run: &mut Run<S>, slip: Slip) {
     checks.that(
         "another run's slip: reading",
         run.read(&slip, 0) == Err(Refusal::NotOpen),

@@ -53,11 +53,14 @@ fn change_list_of(rt: &impl Abort, heap: Global, len: usize, count: u32) -> Resu
     let mut list = ChangeList::new(records.as_mut_slice());
     assert!(rt; list.count() == count as usize);
     assert!(rt; !list.set(count, 1));
+    assert!(rt; list.used() == 0);
     assert!(rt; list.get(count).is_none());
     if count > 0 {
         assert!(rt; list.get(0) == Some(0));
         for number in 1..9u32 {
+            let used = list.used();
             assert!(rt; list.set(number % count, number));
+            assert!(rt; list.used().checked_sub(used) == Some(1) || used == len);
             assert!(rt; list.get(number % count) == Some(number));
         }
         assert!(rt; list.get(7 % count) == Some(if count == 1 { 8 } else { 7 }));

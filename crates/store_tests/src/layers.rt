@@ -1,5 +1,5 @@
-use crate::recorder::Recorder;
 use change_list::ChangeList;
+use recorder::Recorder;
 use store::Store;
 use store::change::Change;
 use store::word_table::WordTable;

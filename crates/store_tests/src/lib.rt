@@ -6,5 +6,3 @@ mod edges;
 #[cfg(test)]
 mod layers;
 pub mod lent;
-#[cfg(test)]
-mod recorder;

@@ -9,7 +9,7 @@ use Rattle.correction.proofs.Calling.{stays_closed}
 use Rattle.job.specs.Jobs.{job_of}
 use Rattle.job.specs.Shape.{is_done}
 use Rattle.job.specs.declared.job.Job.{Job}
-use Rattle.model.specs.Calls.{SlipNumbers, held, if_open, refuse, with_corrections, correction, file_by}
+use Rattle.model.specs.Calls.{SlipNumbers, held, if_open, refuse, with_corrections, correction, file_by, filed}
 use Rattle.model.specs.Logs.{at, set_all}
 use Rattle.model.specs.Rules.{JobState, CorrectionState, State, counted, unmark}
 use Rattle.model.specs.declared.Party.TheVariants as party
@@ -84,17 +84,23 @@ module _ (t : Table) (xs : List Correction) (i : ℕ) (d : Correction) (shown : 
 
 -- A slip's call, where its correction stands at place i, and where it has none.
 module _ {A : Type 0} (call : CallOn A) (C : List ℕ) (t : Table) (slip : SlipNumbers) where
+  pub same_call : (i : ℕ) → Finds t slip (Ok i) → call (state_of C t) slip.correction (held (state_of C t) slip) ≡ call (state_of C t) (suc i) (if_open (at (corrections_in t) (suc i)))
+  same_call i p = ap (λ k. call (state_of C t) k (held (state_of C t) slip)) p.1 ∙ ap (call (state_of C t) (suc i)) (p.2 C)
+
+  pub no_call : ((s : State) (k : ℕ) → call s k None ≡ refuse s NotOpen) → (refusal : Refusal) → Finds t slip (Err refusal) → call (state_of C t) slip.correction (held (state_of C t) slip) ≡ refuse (state_of C t) NotOpen
+  no_call n refusal h = ap (call (state_of C t) slip.correction) (h.1 C) ∙ n (state_of C t) slip.correction
+
   pub by_place : (s' : State) (r : Result A Refusal) (i : ℕ) → Finds t slip (Ok i) →
       (s' ≡ (call (state_of C t) (suc i) (if_open (at (corrections_in t) (suc i)))).next) × (r ≡ (call (state_of C t) (suc i) (if_open (at (corrections_in t) (suc i)))).answer) →
       (s' ≡ (call (state_of C t) slip.correction (held (state_of C t) slip)).next) × (r ≡ (call (state_of C t) slip.correction (held (state_of C t) slip)).answer)
   by_place s' r i p x =
-      let e = sym (ap (λ k. call (state_of C t) k (held (state_of C t) slip)) p.1 ∙ ap (call (state_of C t) (suc i)) (p.2 C)) in
+      let e = sym (same_call i p) in
       (x.0 ∙ ap (λ o. o.next) e, x.1 ∙ ap (λ o. o.answer) e)
 
   pub by-none : ((s : State) (k : ℕ) → call s k None ≡ refuse s NotOpen) → (refusal : Refusal) → Finds t slip (Err refusal) → (r : Result A Refusal) → r ≡ Err refusal →
       (state_of C t ≡ (call (state_of C t) slip.correction (held (state_of C t) slip)).next) × (r ≡ (call (state_of C t) slip.correction (held (state_of C t) slip)).answer)
   by-none n refusal h r e =
-      let none = sym (ap (call (state_of C t) slip.correction) (h.1 C) ∙ n (state_of C t) slip.correction) in
+      let none = sym (no_call n refusal h) in
       (ap (λ o. o.next) none, (e ∙ ap Err h.0) ∙ ap (λ o. o.answer) none)
 
 -- One correction more.
@@ -150,6 +156,10 @@ module _ (C : List ℕ) (t : Table) (i : ℕ) (x : Correction) (here : slice_get
 
     pub filed_fewer : unclosed (with_correction t ys i c') + 1 ≡ unclosed t.corrections.items
     filed_fewer = one_fewer t ys i d lent within c' (ap (λ c. c.is_open) same ∙ ok.0) (ap (λ f. f.is_open) closed)
+
+    -- What happens then.
+    pub file-happens : (file_by (state_of C t) (suc i) (if_open (at (corrections_in t) (suc i)))).events ≡ (filed (state_of C t) (suc i) (correction_of (get_or ys i d))).events
+    file-happens = ap (λ o. o.events) (filing-of ∙ ok.2 (state_of C t) (suc i) refl refl) ∙ ap (λ c. (filed (state_of C t) (suc i) (correction_of c)).events) (sym same)
 
     -- The run then, and the answer.
     pub file-accepted : (D : List ℕ) (n : ℕ) (jobs : List Job) (order : List Party) → D ≡ set_all (correction_of (get_or ys i d)).writes C → n ≡ length (correction_of (get_or ys i d)).writes →

@@ -1,13 +1,14 @@
 -- From what the table did to the model's turn.
-use Rattle.std.proofs.Common.{◌≡◌, ℕ, suc, List, set, Some, None, Ok, Err, sym, refl, ap, ◌∙◌, subst}
+use Rattle.std.proofs.Common.{◌≡◌, ℕ, suc, List, [], ◌∷◌, set, Some, None, Ok, Err, sym, refl, ap, ◌∙◌, subst}
 use Rattle.job.specs.Moves.{Comes, WriteOf}
 use Rattle.job.specs.declared.moves.Move.{Move}
 use Rattle.job.specs.declared.moves.Move.TheVariants.{NoRule, Applies, Takes, Commits}
 use Rattle.model.specs.Calls.{Turned, named, apply, turn, turn_of}
 use Rattle.model.specs.Logs.{at, find, value_in}
-use Rattle.model.specs.Rules.{JobState, State, step_of, rules_of, other_marked, first_fit, unmark_in, with_jobs, with_job, effect}
+use Rattle.model.specs.Rules.{JobState, State, SetCell, step_of, rules_of, other_marked, first_fit, unmark_in, with_jobs, with_job, effect}
 use Rattle.model.specs.declared.Applied.{Applied}
 use Rattle.model.specs.declared.Entry.{Entry}
+use Rattle.model.specs.declared.Party.TheVariants.{Job}
 use Rattle.model.specs.declared.Refusal.TheVariants.{NoSuchJob}
 use Rattle.model.specs.declared.Rule.{Rule}
 use Rattle.model.specs.declared.Rule.TheVariants.{V3, C1, C2, C3}
@@ -58,6 +59,11 @@ module _ (s s' : State) (i : ℕ) (b : JobState) (here : at s.jobs (suc i) ≡ S
         by-fit C2 entry.cell (rw (st, ← f, x.0))
         (e ∙ (ap (λ z. with_setting s z (suc i) b') (d ∙ ap (set s.cells entry.cell) (sym x.1)) ∙ ap (with_setting s (set s.cells entry.cell (value_in (find b.writes entry.cell))) (suc i)) x.2))
 
+    pub c2-events : (b' : JobState) (entry : Entry) → None ≡ other_marked (suc i) 1 s.jobs → WriteOf b b' (Some entry) → (turn s (suc i)).events ≡ SetCell (Job (suc i)) entry.cell entry.number ∷ []
+    c2-events b' entry f x =
+        let fit : first_fit s (suc i) b (step_of b) (rules_of b.stage (step_of b)) ≡ Some (C2, entry.cell) = rw (st, ← f, x.0) in
+        ap (λ o. o.events) turn_is ∙ (ap (λ o. (apply s (suc i) b (step_of b) o).events) fit ∙ ap (λ n. SetCell (Job (suc i)) entry.cell n ∷ []) x.1)
+
     pub c3 : (b' : JobState) → None ≡ other_marked (suc i) 1 s.jobs → WriteOf b b' None → s' ≡ with_joined s (suc i) b → TurnIs s (suc i) s' (Ok (Some (record { rule = C3; cell = None })))
     c3 b' f x e = by-fit C3 0 (rw (st, ← f, x.0)) e
 
@@ -67,7 +73,7 @@ Moved s s' job i NoRule = TurnIs s job s' (Ok None)
 Moved s s' job i (Applies a) = TurnIs s job s' (Ok (Some a))
 Moved s s' job i Takes = (next : State) → next ≡ with_right s' (suc i) → TurnIs s job next (Ok (Some (record { rule = V3; cell = None })))
 Moved s s' job i Commits =
-    ((b : JobState) × (at s'.jobs (suc i) ≡ Some b) × (b.stage ≡ Commit)) × ((next : State) (a : Turned) → TurnIs s' (suc i) next a → TurnIs s job next a)
+    ((b : JobState) × (at s'.jobs (suc i) ≡ Some b) × (b.stage ≡ Commit)) × ((next : State) (a : Turned) → TurnIs s' (suc i) next a → TurnIs s job next a) × ((turn s job).events ≡ (turn s' (suc i)).events)
 
 pub moved : (C : List ℕ) (t t' : Table) (job i : ℕ) (m known : Move) → job ≡ suc i → m ≡ known → JobTurns C t t' i m → Moved (state_of C t) (state_of C t') job i known
 moved C t t' job i m known numbered is w = subst (λ j. Moved s s' j i known) (sym numbered) (by known (subst (Comes s (suc i) w.0 w.1) is (w.4 s (suc i) refl refl)))
@@ -84,7 +90,7 @@ moved C t t' job i m known numbered is w = subst (λ j. Moved s s' j i known) (s
     by Takes x = λ next e. takes s next i w.0 w.2 w.1 s' (w.3 C) e x
     by Commits x =
         let kept = still s s' i w.0 w.2 w.1 (w.3 C) x in
-        ((w.0, ap (λ z. at z.jobs (suc i)) kept ∙ w.2, x.1), λ next a y. subst (λ z. TurnIs z (suc i) next a) kept y)
+        ((w.0, ap (λ z. at z.jobs (suc i)) kept ∙ w.2, x.1), λ next a y. subst (λ z. TurnIs z (suc i) next a) kept y, sym (ap (λ z. (turn z (suc i)).events) kept))
 
 -- A job by its number is one job.
 pub same_job : (s : State) (i : ℕ) (a b : JobState) → at s.jobs (suc i) ≡ Some a → at s.jobs (suc i) ≡ Some b → a ≡ b

@@ -1,10 +1,11 @@
-ghost use Rattle.std.specs.Prelude.{◌≡◌, ℕ, List, map};
+ghost use Rattle.std.specs.Prelude.{◌≡◌, ℕ, List, map, OnErr};
 ghost use Rattle.job.specs.Jobs.{job_of};
 ghost use Rattle.correction.specs.Calls.{reading, writing, withdrawing};
-ghost use Rattle.model.specs.Calls.{open_correction, file_by};
+ghost use Rattle.model.specs.Calls.{open_correction, file_by, held};
 ghost use Rattle.model.specs.Rules.{unmark};
 ghost use Rattle.table.specs.Corrections.{Finds, Corrects};
 ghost use Rattle.table.specs.Slips.{numbers, numbered};
+ghost use Rattle.table.specs.Settings.{Through};
 ghost use Rattle.table.specs.States.{state_of};
 
 use crate::slip::SlipNumbers;
@@ -79,6 +80,8 @@ impl Table {
     pub fn file<S: Store>(&mut self, slip: SlipNumbers, store: &mut S) -> Result<(), Refusal>
         ensures run { Corrects file_by (S.Store.cells store.old) (S.Store.cells store.new) self.old self.new (numbers slip) result }
         ensures loan { S.Store.loan store.new ≡ S.Store.loan store.old }
+        ensures store { Through S.Store.sets (file_by (state_of (S.Store.cells store.old) self.old) (numbers slip).correction (held (state_of (S.Store.cells store.old) self.old) (numbers slip))).events store.old store.new }
+        ensures refused { OnErr result (store.new ≡ store.old) }
     {
         let i = self.place_by(slip)?;
         self.corrections[i].check(store, self.right)?;

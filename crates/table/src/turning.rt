@@ -4,6 +4,7 @@ ghost use Rattle.model.specs.Calls.{turn};
 ghost use Rattle.model.specs.Logs.{at};
 ghost use Rattle.model.specs.Rules.{JobState};
 ghost use Rattle.model.specs.declared.Stage.TheVariants.{Commit};
+ghost use Rattle.table.specs.Settings.{Through};
 ghost use Rattle.table.specs.States.{jobs_in, state_of};
 
 use crate::table::Table;
@@ -17,6 +18,7 @@ impl Table {
         ensures next { state_of (S.Store.cells store.new) self.new ≡ (turn (state_of (S.Store.cells store.old) self.old) job).next }
         ensures answer { result ≡ (turn (state_of (S.Store.cells store.old) self.old) job).answer }
         ensures loan { S.Store.loan store.new ≡ S.Store.loan store.old }
+        ensures store { Through S.Store.sets (turn (state_of (S.Store.cells store.old) self.old) job).events store.old store.new }
     {
         let i = self.place_of(job)?;
         match self.turn_job(i, store) {
@@ -40,6 +42,7 @@ impl Table {
         ensures next { state_of (S.Store.cells store.new) self.new ≡ (turn (state_of (S.Store.cells store.old) self.old) (suc i)).next }
         ensures answer { Ok (Some result) ≡ (turn (state_of (S.Store.cells store.old) self.old) (suc i)).answer }
         ensures loan { S.Store.loan store.new ≡ S.Store.loan store.old }
+        ensures store { Through S.Store.sets (turn (state_of (S.Store.cells store.old) self.old) (suc i)).events store.old store.new }
     {
         if let Some(marked) = self.other_marked(i) {
             self.unmark(marked);

@@ -26,7 +26,7 @@ fn any_cell(random: &mut Random) -> u32 {
 
 fn keep(slot: &mut Option<Slip>, slip: Slip) {
     if let Some(old) = slot.replace(slip) {
-        old.discard();
+        let _ = old.discard();
     }
 }
 
@@ -109,7 +109,7 @@ fn withdraw_some<S: Store>(trial: &mut Trial<S>, slips: &mut Slips, random: &mut
 
 fn discard(slot: Option<Slip>) {
     if let Some(slip) = slot {
-        slip.discard();
+        let _ = slip.discard();
     }
 }
 

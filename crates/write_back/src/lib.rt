@@ -1,8 +1,9 @@
 #![tactic(auto)]
 
-ghost use Rattle.std.specs.Prelude.{◌≡◌, [], length, set, if◌then◌else◌, nat_lt, slice_set};
+ghost use Rattle.std.specs.Prelude.{◌≡◌, false, [], length, if◌then◌else◌, nat_lt, slice_set};
 ghost use Rattle.store.specs.Changes.{replay};
-ghost use Rattle.write_back.specs.Holding.{evicted, held_in, holding, remaining, set_below};
+ghost use Rattle.store.specs.Sets.{SetsEach};
+ghost use Rattle.write_back.specs.Holding.{evicted, held_in, set_below, Holds};
 
 mod held;
 
@@ -20,6 +21,8 @@ impl<S: Store> Store for WriteBack<S> {
     ghost cells = { λ s. replay (S.Store.cells s.below) (held_in s.held) };
 
     ghost loan = { λ s. S.Store.loan s.below };
+
+    ghost sets = { Holds S.Store.cells S.Store.sets };
 
     fn count(&self) -> usize {
         self.below.count()
@@ -39,7 +42,8 @@ impl<S: Store> Store for WriteBack<S> {
         ensures answer { result ≡ nat_lt cell (length (replay (S.Store.cells self.old.below) (held_in self.old.held))) }
         ensures after { replay (S.Store.cells self.new.below) (held_in self.new.held) ≡ slice_set (replay (S.Store.cells self.old.below) (held_in self.old.held)) cell number }
         ensures same { S.Store.loan self.new.below ≡ S.Store.loan self.old.below }
-        ensures held { held_in self.new.held ≡ (if result then holding (remaining (held_in self.old.held) cell) cell number else held_in self.old.held) }
+        ensures done { Holds S.Store.cells S.Store.sets self.old cell number self.new }
+        ensures refused { result ≡ false → self.new ≡ self.old }
         ensures below { S.Store.cells self.new.below ≡ (if result then set_below (S.Store.cells self.old.below) (evicted (held_in self.old.held) cell) else S.Store.cells self.old.below) }
     {
         if cell as usize >= self.count() {
@@ -69,6 +73,7 @@ impl<S: Store> WriteBack<S> {
     pub fn into_store(self) -> S
         ensures cells { S.Store.cells result ≡ replay (S.Store.cells self.below) (held_in self.held) }
         ensures loan { S.Store.loan result ≡ S.Store.loan self.below }
+        ensures each { SetsEach S.Store.sets self.below (held_in self.held) result }
     {
         let WriteBack { mut below, held } = self;
         for change in held.changes() {

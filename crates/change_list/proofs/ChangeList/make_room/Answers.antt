@@ -1,11 +1,11 @@
-use Rattle.std.proofs.Common.{◌≡◌, ℕ, List, set, ◌+◌, ◌<◌, length, get_or, take, drop, sym, ap, ◌∙◌, arith, length-set}
-use Rattle.std.proofs.lemmas.List.{length-take-le, drop-drop, drop-set-lt}
+use Rattle.std.proofs.Common.{◌≡◌, ◌+◌, ◌<◌, length, get_or, take, drop, sym, ap, ◌∙◌, arith, length-set}
+use Rattle.std.proofs.lemmas.List.{length-take-le}
 use Rattle.std.proofs.lemmas.Bool.{not-true, not-false}
 use Rattle.store.specs.declared.change.Change.{Change}
 use Rattle.store.specs.Changes.{touches}
 use Rattle.change_list.specs.Records.{cell_count, newest}
 use Rattle.change_list.proofs.Counting.{newest_few}
-use Rattle.change_list.proofs.Kept.{turn_keeps, turn_leaves, sound_moved, loop_over, sound_kept, room_left, room_none}
+use Rattle.change_list.proofs.Kept.{later, turn_keeps, turn_leaves, sound_moved, loop_over, sound_kept, room_left, room_none}
 use Rattle.change_list.proofs.ChangeList.make_room.Goals.{After-loop-i, then-is_newest, else-is_newest}
 use Rattle.change_list.proofs.ChangeList.make_room.Goals as goal
 
@@ -14,11 +14,6 @@ returns-then-self-clause-kept c =
     let list = c.args.self.now in
     let records = list.records.now in
     sym (room_left (length records) (take list.used records) (omega (arith, length-take-le list.used records list.within)))
-
--- A record that is kept changes no later one.
-later : (records entry : List Change) (i len : ℕ) (none : Change) → drop len records ≡ drop len entry → drop (len + 1) (set records len (get_or records i none)) ≡ drop (len + 1) entry
-later records entry i len none e =
-    drop-set-lt (len + 1) records len (get_or records i none) (omega arith) ∙ (sym (drop-drop 1 len records) ∙ (ap (drop 1) e ∙ drop-drop 1 len entry))
 
 pub loop-i-preserved : goal.loop-i-preserved
 loop-i-preserved c =
@@ -37,7 +32,7 @@ loop-i-preserved c =
             length-set records len (get_or records i none) ∙ inv.1,
             inv.2,
             omega arith,
-            later records entry i len none inv.4,
+            later records entry len (get_or records i none) inv.4,
             turn_keeps records list.used i len none list.within (omega arith) inv.3 (not-true again (sym c.is_newest.ensures ∙ w.if-is_newest.true)) ∙ inv.5,
           )
       | else-is_newest w ↦

@@ -10,4 +10,4 @@ returns g c =
     let C = g.S.Store.cells c.args.self.store in
     let r = c.args.self.roster in
     let sealed = c.into_table.ensures C in
-    record { sealed = sealed; lawful = subst Lawful (sym sealed) (law (intake_of C r) (well_formed_lem C r)); loan = refl }
+    record { sealed = sealed; lawful = subst Lawful (sym sealed) (law (intake_of C r) (well_formed_lem C r)); store = refl }

@@ -3,7 +3,9 @@ use Rattle.job.specs.Moves.{WriteOf}
 use Rattle.job.specs.Shape.{is_done}
 use Rattle.model.specs.Logs.{at}
 use Rattle.table.specs.States.{state_of, with_joined}
-use Rattle.table.proofs.Rules.{same_job, c1, c2, c3}
+use Rattle.table.specs.Settings.{Through}
+use Rattle.table.proofs.Rules.{same_job, c1, c2, c2-events, c3}
+use Rattle.table.proofs.Settings.{not_set}
 use Rattle.table.proofs.table.Table.commit.Goals as goal
 
 pub returns-in-Some : goal.returns-in-Some
@@ -12,7 +14,7 @@ returns-in-Some g c =
     let s = state_of C c.args.self.now in
     let b = c.requires.stage in
     let x = c1 s _ c.args.i b.0 b.1 b.2 c.in-Some.marked c.in-Some.ensures (c.unmark.ensures C) in
-    record { next = x.0; answer = x.1; loan = refl }
+    record { next = x.0; answer = x.1; loan = refl; store = not_set g.S.Store.sets c.args.store.now s (suc c.args.i) _ x.0 (ap (λ z. z.settings) (c.unmark.ensures C)) }
 
 pub returns-in-Some-take_write : goal.returns-in-Some-take_write
 returns-in-Some-take_write g c =
@@ -25,7 +27,8 @@ returns-in-Some-take_write g c =
     let x =
     c2 s _ c.args.i b.0 b.1 b.2 w.1 c.in-Some-take_write.entry D c.in_default.ensures (subst (λ z. WriteOf z w.1 (Some c.in-Some-take_write.entry)) same w.3)
     c.set.ensures.after (w.4 D) in
-    record { next = x.0; answer = x.1; loan = c.set.ensures.same }
+    let es = c2-events s s c.args.i b.0 b.1 b.2 w.1 c.in-Some-take_write.entry c.in_default.ensures (subst (λ z. WriteOf z w.1 (Some c.in-Some-take_write.entry)) same w.3) in
+    record { next = x.0; answer = x.1; loan = c.set.ensures.same; store = subst (λ es. Through g.S.Store.sets es c.args.store.now c.set.new.self) (sym es) (c.set.new.self, c.set.ensures.done, refl) }
 
 pub finish-requires : goal.finish-requires
 finish-requires g c =
@@ -50,4 +53,4 @@ returns g c =
     let x =
     c3 s _ c.args.i b.0 b.1 b.2 w.1 c.in_default.ensures (subst (λ z. WriteOf z w.1 None) same w.3)
     (f.2 C ∙ (ap (λ z. with_joined z (suc c.args.i) f.0) kept ∙ ap (with_joined s (suc c.args.i)) done)) in
-    record { next = x.0; answer = x.1; loan = refl }
+    record { next = x.0; answer = x.1; loan = refl; store = not_set g.S.Store.sets c.args.store.now s (suc c.args.i) _ x.0 (ap (λ z. z.settings) (f.2 C) ∙ ap (λ z. z.settings) kept) }

@@ -1,10 +1,13 @@
-use Rattle.std.proofs.Common.{Ok, Err, sym, refl, ap, ◌∙◌, arith}
+use Rattle.std.proofs.Common.{suc, get_or, Ok, Err, sym, refl, ap, ◌∙◌, subst, arith}
 use Rattle.std.proofs.lemmas.Result.{err_from_is_err_and}
 use Rattle.model.specs.Calls.{file_by}
 use Rattle.table.specs.Slips.{numbers}
-use Rattle.table.proofs.Corrected.{as_many_opened, as_many-unmarked, unfinished-unmarked, jobs-unmarked, filed_fewer, file-refused, file-accepted, by_place, by-none}
+use Rattle.table.proofs.Corrected.{as_many_opened, as_many-unmarked, unfinished-unmarked, jobs-unmarked, filed_fewer, file-refused, file-accepted, file-happens, same_call, no_call, by_place, by-none}
 use Rattle.correction.specs.Corrections.{correction_of}
 use Rattle.table.proofs.Tabling.{row_read}
+use Rattle.table.specs.Settings.{Through, changes_in}
+use Rattle.table.proofs.Settings.{filed_through, untouched}
+use Rattle.model.specs.declared.Party.TheVariants.{Correction}
 use Rattle.table.proofs.table.Table.file.Goals as goal
 
 pub returns-in_err-i-clause-run : goal.returns-in_err-i-clause-run
@@ -57,3 +60,31 @@ returns-clause-run g c =
     c.commit-written.ensures.closed
     (g.S.Store.cells c.commit-written.new.store) c.commit-written.result _ c.push.new.self.items c.commit-written.ensures.after c.commit-written.ensures.count
     (jobs-unmarked t c.as_mut_slice.result.now c.unmark_all.new.jobs c.as_mut_slice.ensures.value c.unmark_all.ensures) c.push.ensures.items)
+
+pub returns-in_err-i-clause-store : goal.returns-in_err-i-clause-store
+returns-in_err-i-clause-store g c =
+    let store = c.args.store.now in
+    let e = no_call file_by (g.S.Store.cells store) c.args.self.now (numbers c.args.slip) (λ s k. refl) c.in_err-i.field-0.0 c.in_err-i.ensures in
+    untouched g.S.Store.sets store _ (ap (λ o. changes_in o.events) e)
+
+pub returns-in_err-check-clause-store : goal.returns-in_err-check-clause-store
+returns-in_err-check-clause-store g c =
+    let t = c.args.self.now in
+    let store = c.args.store.now in
+    let C = g.S.Store.cells store in
+    let here = row_read correction_of t.corrections c.deref.result.now c.in_ok-i.i c.index-deref-i.result c.deref.ensures.0 c.in_ok-i.ensures.0 c.index-deref-i.is in
+    let e = same_call file_by C t (numbers c.args.slip) c.in_ok-i.i c.in_ok-i.ensures ∙ file-refused C t c.in_ok-i.i c.index-deref-i.result here c.in_err-check.field-0.0 c.in_err-check.ensures in
+    untouched g.S.Store.sets store _ (ap (λ o. changes_in o.events) e)
+
+pub returns-clause-store : goal.returns-clause-store
+returns-clause-store g c =
+    let t = c.args.self.now in
+    let store = c.args.store.now in
+    let C = g.S.Store.cells store in
+    let here = row_read correction_of t.corrections c.deref.result.now c.in_ok-i.i c.index-deref-i.result c.deref.ensures.0 c.in_ok-i.ensures.0 c.index-deref-i.is in
+    let e =
+    ap (λ o. o.events) (same_call file_by C t (numbers c.args.slip) c.in_ok-i.i c.in_ok-i.ensures)
+    ∙ file-happens C t c.in_ok-i.i c.index-deref-i.result here c.in_ok-check.ensures c.deref_mut.result.now c.index-deref_mut-i.result c.commit-written.new.self c.deref_mut.ensures.value c.in_ok-i.ensures.0
+    c.commit-written.ensures.closed in
+    subst (λ es. Through g.S.Store.sets es store c.commit-written.new.store) (sym e)
+    (filed_through g.S.Store.sets (Correction (suc c.in_ok-i.i)) (correction_of (get_or c.deref_mut.result.now c.in_ok-i.i c.index-deref_mut-i.result)).writes store c.commit-written.new.store c.commit-written.ensures.each)

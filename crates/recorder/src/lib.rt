@@ -1,29 +1,28 @@
+// A store that keeps a list of what is set on it, for tests: what a run or a layer sets is seen there, set by set.
+#![tactic(auto)]
+
 ghost use Rattle.std.specs.Prelude.{◌≡◌, []};
 
-use arrayvec::ArrayVec;
+mod log;
+
+pub use log::Log;
 use store::Store;
 use store::change::Change;
 
-// How many sets a log has room for.
-const MOST_SETS: usize = 80;
-
-// What was set on a store, in order, and how many sets found no room.
-#[derive(Drop)]
-pub(crate) struct Log {
-    pub(crate) sets: ArrayVec<Change, MOST_SETS>,
-    pub(crate) missed: usize,
-}
-
-// A store that keeps a log of what is set on it.
-pub(crate) struct Recorder<S: Store> {
-    pub(crate) inner: S,
-    pub(crate) log: Log,
+// A store over any store, with the same cells, that keeps in a log what is set on it.
+pub struct Recorder<S: Store> {
+    pub inner: S,
+    pub log: Log,
 }
 
 impl<S: Store> Store for Recorder<S> {
+    ghost use Rattle.recorder.specs.Recording.{Records};
+
     ghost cells = { λ s. S.Store.cells s.inner };
 
     ghost loan = { λ s. S.Store.loan s.inner };
+
+    ghost sets = { Records S.Store.cells S.Store.sets };
 
     fn count(&self) -> usize {
         self.inner.count()
@@ -34,32 +33,24 @@ impl<S: Store> Store for Recorder<S> {
     }
 
     fn set(&mut self, cell: u32, number: u32) -> bool {
+        if !self.inner.set(cell, number) {
+            return false;
+        }
         self.log.add(Change { cell, number });
-        self.inner.set(cell, number)
+        true
     }
 }
 
 impl<S: Store> Recorder<S> {
     // A recorder with nothing in its log.
-    pub(crate) fn new(inner: S) -> Recorder<S>
+    pub fn new(inner: S) -> Recorder<S>
         ensures inner { result.inner ≡ inner }
         ensures sets { result.log.sets.items ≡ [] }
         ensures missed { result.log.missed ≡ 0 }
     {
         Recorder {
             inner,
-            log: Log {
-                sets: ArrayVec::new(),
-                missed: 0,
-            },
-        }
-    }
-}
-
-impl Log {
-    fn add(&mut self, change: Change) {
-        if self.sets.try_push(change).is_err() {
-            self.missed = self.missed.saturating_add(1);
+            log: Log::new(),
         }
     }
 }
