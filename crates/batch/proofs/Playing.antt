@@ -1,14 +1,10 @@
 -- Turns in a row.
-use Rattle.std.proofs.Common.{◌≡◌, ℕ, suc, ◌+◌, ◌-◌, ◌<◌, List, [], ◌∷◌, ◌++◌, length, get_or, drop, replicate, refl, ap, ◌∙◌, arith}
+use Rattle.std.proofs.Common.{◌≡◌, ℕ, ◌+◌, ◌<◌, List, [], ◌∷◌, ◌++◌, length, get_or, drop, replicate, refl, ◌∙◌}
 use Rattle.std.proofs.lemmas.List.{at_drop_more}
-use Rattle.model.specs.Calls.{Call, Turn, turn, call, after}
+use Rattle.model.specs.Calls.{Call, Turn, call, after}
 use Rattle.model.specs.Rules.{State}
 use Rattle.script.specs.declared.Allotment.{Allotment}
 use Rattle.batch.specs.Runs.{calls_of}
-
-module _ (j n k : ℕ) (s : State) where
-  pub turns_more : k < n → after s (replicate (n - k) (Turn j)) ≡ after (turn s j).next (replicate (n - (k + 1)) (Turn j))
-  turns_more l = let q : n - k ≡ suc (n - (k + 1)) = omega arith in ap (λ (m : ℕ). after s (replicate m (Turn j))) q
 
 after-append : (s : State) (xs ys : List Call) → after s (xs ++ ys) ≡ after (after s xs) ys
 after-append s [] ys = refl

@@ -2,9 +2,11 @@
 #![tactic(auto)]
 
 use model::{Applied, Party, Refusal, Step};
+use run::carrying::{NoRoom, carry_out};
 use run::intake::Intake;
+use run::requests::{Answer, Request};
 use run::run::Run;
-use run::slip::{Slip, Unfiled};
+use run::slip::{Slip, SlipNumbers, Unfiled};
 use std::io;
 use store::Store;
 use store::word_table::WordTable;
@@ -43,6 +45,38 @@ const PROGRAM: [Step; 5] = [
         register: 0,
     },
     Step::End,
+];
+
+// The number of a second run, which makes a list of calls by numbers alone, and what stands for its first slip.
+const SECOND: u32 = 2;
+
+const SLIP: SlipNumbers = SlipNumbers {
+    run: SECOND,
+    correction: 1,
+};
+
+// A correction that is filed once: another run's slip does not withdraw it, and a second filing finds it closed.
+const CALLS: [Request; 8] = [
+    Request::Open,
+    Request::Read {
+        slip: SLIP,
+        cell: CELL,
+    },
+    Request::Write {
+        slip: SLIP,
+        cell: CELL,
+        number: NUMBER,
+    },
+    Request::Withdraw {
+        slip: SlipNumbers {
+            run: RUN,
+            correction: 1,
+        },
+    },
+    Request::File { slip: SLIP },
+    Request::File { slip: SLIP },
+    Request::Turn { job: 1 },
+    Request::Settle,
 ];
 
 // Gives the job at most so many turns, and prints the rule of each.
@@ -168,7 +202,41 @@ fn print_run<S: Store>(rt: &impl Print, run: &mut Run<S>, jobs: [u32; 2]) -> io:
     print_order(rt, run)
 }
 
-// The whole run; gives the store back.
+fn print_answer(rt: &impl Print, answer: Answer) -> io::Result<()> {
+    match answer {
+        Answer::OfTurn(Ok(Some(Applied { rule, .. }))) => println!(rt; "a turn by {rule}"),
+        Answer::OfTurn(Ok(None)) => println!(rt; "a turn by no rule"),
+        Answer::OfSettling => println!(rt; "settled"),
+        Answer::OfOpening(Ok(slip)) => println!(rt; "correction {}: opened", slip.correction),
+        Answer::OfReading(Ok(number)) => println!(rt; "read {number}"),
+        Answer::OfAcceptance(Ok(())) => println!(rt; "accepted"),
+        Answer::OfTurn(Err(refusal))
+        | Answer::OfOpening(Err(refusal))
+        | Answer::OfReading(Err(refusal))
+        | Answer::OfAcceptance(Err(refusal)) => println!(rt; "refused by {}", u32::from(refusal)),
+    }
+}
+
+// The second run; gives the store back.
+fn carry_calls<S: Store>(rt: &impl Print, store: S) -> (S, io::Result<()>) {
+    let mut intake = Intake::new(store, SECOND);
+    let _ = intake.admit(&PROGRAM);
+    let mut answers = [Answer::OfSettling; CALLS.len()];
+    match carry_out(intake, &CALLS, &mut answers) {
+        Ok(run) => {
+            let told = answers
+                .iter()
+                .try_for_each(|answer| print_answer(rt, *answer));
+            (run.close(), told)
+        }
+        Err(NoRoom { intake }) => (
+            intake.seal().close(),
+            rt.println("there is no room for the answers"),
+        ),
+    }
+}
+
+// The first run; gives the store back.
 fn run_over<S: Store>(rt: &impl Print, store: S) -> (S, io::Result<()>) {
     let mut intake = Intake::new(store, RUN);
     let jobs = [intake.admit(&PROGRAM), intake.admit(&PROGRAM)];
@@ -183,6 +251,10 @@ fn run_over<S: Store>(rt: &impl Print, store: S) -> (S, io::Result<()>) {
 fn main(rt: HostRuntime) -> io::Result<()> {
     let mut words = [NUMBER];
     let (table, printed) = run_over(&rt, WordTable::new(&mut words));
+    printed?;
+    let number = table.get(CELL).unwrap_or(0);
+    println!(&rt; "cell {CELL}: {number}")?;
+    let (table, printed) = carry_calls(&rt, table);
     printed?;
     let number = table.get(CELL).unwrap_or(0);
     println!(&rt; "cell {CELL}: {number}")

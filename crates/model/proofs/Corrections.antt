@@ -18,7 +18,7 @@ use Rattle.model.proofs.Invariant.{Scene, scene, finished, Stands, JobInv, Answe
 use Rattle.model.proofs.Acts.{wraps, replays-still}
 
 -- The correction of a slip that is taken is open.
-held_open : (s : State) (slip : SlipNumbers) (f : CorrectionState) → held s slip ≡ Some f → (at s.corrections slip.correction ≡ Some f) × (f.is_open ≡ true)
+pub held_open : (s : State) (slip : SlipNumbers) (f : CorrectionState) → held s slip ≡ Some f → (at s.corrections slip.correction ≡ Some f) × (f.is_open ≡ true)
 held_open s slip f e =
     by_bool (eqb slip.run s.number)
     (λ t. one (at s.corrections slip.correction) (sym (ap (λ z. cond z (if_open (at s.corrections slip.correction)) None) t) ∙ e))

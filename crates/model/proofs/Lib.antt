@@ -13,3 +13,8 @@ mod Uncorrected
 pub mod Whole
 pub mod Rows
 pub mod Admission
+pub mod Lifting
+pub mod Calling
+pub mod Joining
+mod Hearing
+pub mod Answering

@@ -3,7 +3,7 @@ use Rattle.std.proofs.Common.{◌≡◌, ℕ, zero, suc, ◌+◌, ◌*◌, ◌%�
 use Rattle.model.specs.Logs.{at, foldl}
 use Rattle.model.specs.Replay.{waits, play_job}
 use Rattle.model.specs.Rules.{JobState, State, Event, Started, ReadCell, WroteCell, TookRight, SetCell, Joined, place_of, step_of, rules_of, first_fit}
-use Rattle.model.specs.Calls.{Call, Turn, Settle, Open, Read, Write, File, Withdraw, OfTurn, apply, turn, turn_of, settle_next, settle_in, settle, held, call, after, events_of, answers_of}
+use Rattle.model.specs.Calls.{Call, Turn, OfTurn, apply, turn, turn_of, settle, after, events_of, answers_of}
 use Rattle.model.specs.Intake.{Intake, new_job, sealed}
 use Rattle.model.specs.Law.{WellFormed, Admissible, same, Member, by_other, count_of, is_start, is_taking, is_setting, RestartsHaveACause, Counted, NoOneForgotten, LogsOrdered, Law, program_or, program_of}
 use Rattle.model.specs.declared.Step.{Step}
@@ -12,19 +12,19 @@ use Rattle.model.specs.declared.Stage.{Stage}
 use Rattle.model.specs.declared.Stage.TheVariants.{Start, At, Rollback, Validate, Commit, Done}
 use Rattle.model.specs.declared.Party.TheVariants.{Job}
 use Rattle.model.specs.declared.Rule.{Rule}
-use Rattle.model.proofs.Basics.{by_bool, by_cond, zero_one, at_map, sum, count-append}
+use Rattle.model.proofs.Basics.{by_bool, by_cond, zero_one, at_map, sum}
 use Rattle.model.proofs.LogLaws.{unchanged_agrees, sized_none, sized_more}
 use Rattle.model.proofs.Follow.{comes_to, step-at}
 use Rattle.model.proofs.Cases.{Rests, turn-cases}
-use Rattle.model.proofs.Views.{stir, ticked, View, advance, no_view, advance-append, same_self}
-use Rattle.model.proofs.Invariant.{scene, player, Stands, room, Inv, Fair, job_load, remaining, spent, Kept, unchanged}
-use Rattle.model.proofs.Acts.{stood, turn_keeps}
-use Rattle.model.proofs.Corrections.{open-keeps, read_keeps, write_keeps, file-keeps, withdraw-keeps}
+use Rattle.model.proofs.Views.{stir, ticked, View, advance, no_view, same_self}
+use Rattle.model.proofs.Invariant.{scene, player, Stands, room, Inv, Fair, job_load, remaining, spent}
+use Rattle.model.proofs.Acts.{stood}
+use Rattle.model.proofs.Answering.{go-as-jobs, idle, jobs-read}
+use Rattle.model.proofs.Calling.{calls-keep}
+use Rattle.model.proofs.Hearing.{read-as-answered}
+use Rattle.model.proofs.Joining.{commit-order, joins-last}
+use Rattle.model.proofs.Stopping.{stopping}
 use Rattle.model.proofs.Settling.{settle_frees}
-
-fair-append : (j : ℕ) (acc : Bool) (xs ys : List Event) → Fair j acc xs → Fair j (foldl (stir j) acc xs) ys → Fair j acc (xs ++ ys)
-fair-append j acc [] ys p q = q
-fair-append j acc (x ∷ xs) ys p q = (p.0, fair-append j (stir j acc x) xs ys p.1 q)
 
 fair-drop : (j : ℕ) (acc : Bool) (xs ys : List Event) → Fair j acc (xs ++ ys) → Fair j (foldl (stir j) acc xs) ys
 fair-drop j acc [] ys p = p
@@ -102,42 +102,6 @@ starts_bound j (SetCell e c v ∷ es) acc p =
 starts_bound j (Joined e ∷ es) acc p = starts_bound j es acc p.1
 
 module _ (programs : ℕ → List Step) (C₀ : List ℕ) where
-  then-on : (v : View) (s t u : State) (xs ys : List Event) → Kept programs C₀ v s t xs → Kept programs C₀ (advance v xs) t u ys → Kept programs C₀ v s u (xs ++ ys)
-  then-on v s t u xs ys p q = record {
-    inv = subst (Inv programs C₀ u) (advance-append v xs ys) q.inv;
-    fair = λ j. fair-append j (v.stirred j) xs ys (p.fair j) (q.fair j);
-    spends = omega (arith, p.spends, q.spends, count-append is_taking xs ys, count-append is_setting xs ys);
-  }
-
-  settle-next : (n : ℕ) (s : State) (v : View) → Inv programs C₀ s v →
-      ((t : State) (w : View) → Inv programs C₀ t w → Kept programs C₀ w t (settle_in n t).next (settle_in n t).events) →
-      (o : Option ℕ) → Kept programs C₀ v s (settle_next o s (λ t. settle_in n t)).next (settle_next o s (λ t. settle_in n t)).events
-  settle-next n s v I ih None = unchanged programs C₀ s v I
-  settle-next n s v I ih (Some h) =
-      let k = turn_keeps programs C₀ s v I h in
-      let t : State = (turn s h).next in
-      then-on v s t (settle_in n t).next (turn s h).events (settle_in n t).events k (ih t (advance v (turn s h).events) k.inv)
-
-  settle-keeps : (n : ℕ) (s : State) (v : View) → Inv programs C₀ s v → Kept programs C₀ v s (settle_in n s).next (settle_in n s).events
-  settle-keeps zero s v I = unchanged programs C₀ s v I
-  settle-keeps (suc n) s v I = settle-next n s v I (λ t w J. settle-keeps n t w J) s.right
-
-  call-keeps : (s : State) (v : View) → Inv programs C₀ s v → (c : Call) → Kept programs C₀ v s (call s c).next (call s c).events
-  call-keeps s v I (Turn j) = turn_keeps programs C₀ s v I j
-  call-keeps s v I Settle = settle-keeps (length s.jobs + 25) s v I
-  call-keeps s v I Open = open-keeps programs C₀ s v I
-  call-keeps s v I (Read slip c) = read_keeps programs C₀ s v I slip c (held s slip) refl
-  call-keeps s v I (Write slip c w) = write_keeps programs C₀ s v I slip c w (held s slip) refl
-  call-keeps s v I (File slip) = file-keeps programs C₀ s v I slip (held s slip) refl
-  call-keeps s v I (Withdraw slip) = withdraw-keeps programs C₀ s v I slip (held s slip) refl
-
-  calls-keep : (calls : List Call) (s : State) (v : View) → Inv programs C₀ s v → Kept programs C₀ v s (after s calls) (events_of s calls)
-  calls-keep [] s v I = unchanged programs C₀ s v I
-  calls-keep (c ∷ calls) s v I =
-      let k = call-keeps s v I c in
-      let t : State = (call s c).next in
-      then-on v s t (after t calls) (call s c).events (events_of t calls) k (calls-keep calls t (advance v (call s c).events) k.inv)
-
   module _ (s : State) (v : View) (I : Inv programs C₀ s v) where
     -- A turn that answers none changes nothing, so all of them rest at once.
     stays : (j : ℕ) (o : Option JobState) → (turn_of s j o).answer ≡ Ok None → (turn_of s j o).next ≡ s
@@ -274,4 +238,11 @@ law i ok calls =
       no_one_forgotten = forgotten P i.cells s v k.inv;
       logs = ordered P i.cells s v k.inv;
       settles = frees P i.cells s v k.inv;
+      commit_order = commit-order P i.cells (sealed i) no_view (sealed-inv i ok) refl calls;
+      joins_last = joins-last s;
+      read_as_answered = read-as-answered (sealed i) calls;
+      jobs_read = jobs-read s;
+      idle_changes_nothing = idle s;
+      corrections_go_as_jobs = go-as-jobs s;
+      plays_stop = λ j b e cells. stopping b.program cells (k.inv.jobs j b e).well_formed;
     }

@@ -1,15 +1,21 @@
 -- The law of runs: what holds of every sealed run after every list of calls. Assumes nothing.
-use Rattle.std.specs.Prelude.{◌≡◌, ℕ, suc, ◌+◌, ◌<◌, ◌≤◌, Bool, true, false, cond, not, ◌⊎◌, List, [], ◌∷◌, ◌++◌, map, length, Some, None, Ok, Option, ◌==◌}
+use Rattle.std.specs.Prelude.{◌≡◌, ℕ, zero, suc, ◌+◌, ◌<◌, ◌≤◌, Bool, true, false, cond, not, ◌⊎◌, List, [], ◌∷◌, ◌++◌, map, length, Some, None, Ok, Err, Option, ◌==◌, slice_set}
 use Rattle.std.specs.List.{slice_get}
-use Rattle.model.specs.Logs.{Log, Ascending, at, foldl}
-use Rattle.model.specs.Replay.{Request, Reads, Writes, Player, Play, Parts, waits, play_step, play_job, plays, replayed}
-use Rattle.model.specs.Rules.{JobState, CorrectionState, State, Event, Started, ReadCell, WroteCell, TookRight, SetCell, Joined}
-use Rattle.model.specs.Calls.{Call, Turn, Settle, Open, Read, Write, File, Withdraw, OfTurn, settle, after, events_of, answers_of}
+use Rattle.model.specs.Steps.{no_registers, register}
+use Rattle.model.specs.Logs.{Log, Ascending, find, at, put_at, foldl}
+use Rattle.model.specs.Replay.{Request, Reads, Writes, Player, Play, Parts, beginning, waits, after_read, after_write, after_computing, play_step, play_job, plays, replayed}
+use Rattle.model.specs.Rules.{JobState, CorrectionState, State, Event, Started, ReadCell, WroteCell, TookRight, SetCell, Joined, step_of}
+use Rattle.model.specs.Calls.{SlipNumbers, Call, Turn, Settle, Open, Read, Write, File, Withdraw, Answer, OfTurn, OfOpening, OfReading, OfAcceptance, turn, settle, with_corrections, correction, held, call, after, events_of, answers_of}
 use Rattle.model.specs.Intake.{Intake, stops, last_stops, admission_fault, sealed, closed_cells}
 use Rattle.model.specs.declared.Party.{Party}
 use Rattle.model.specs.declared.Party.TheVariants.{Job, Correction}
 use Rattle.model.specs.declared.Step.{Step}
-use Rattle.model.specs.declared.Step.TheVariants.{JumpIfLess}
+use Rattle.model.specs.declared.Refusal.TheVariants.{LogFull}
+use Rattle.model.specs.declared.Rule.{Rule}
+use Rattle.model.specs.declared.Rule.TheVariants.{C3}
+use Rattle.model.specs.declared.Stage.TheVariants.{At}
+use Rattle.model.specs.declared.Step.TheVariants as steps
+use Rattle.model.specs.declared.Step.TheVariants.{JumpIfLess, Wait, End}
 
 -- What the law asks of a program: 1 to 24 steps, of which the last waits or ends, and jumps that go forward.
 pub record WellFormed (program : List Step) : Type 0 where
@@ -144,6 +150,139 @@ pub record LogsOrdered (s : State) : Type 0 where
   pub of_jobs : (j : ℕ) (b : JobState) → at s.jobs j ≡ Some b → Ordered b.reads × Ordered b.writes
   pub of_corrections : (k : ℕ) (f : CorrectionState) → at s.corrections k ≡ Some f → Ordered f.reads × Ordered f.writes
 
+-- A player after so many steps; one that stands at a step that waits or ends, or at none, stays.
+abbrev pub stepped : Option Step → List ℕ → Player → Player
+stepped (Some (steps.Read r cell)) cells p = after_read cells r cell p
+stepped (Some (steps.Write cell r)) cells p = after_write cell r p
+stepped (Some Wait) cells p = p
+stepped (Some End) cells p = p
+stepped (Some step) cells p = after_computing step p
+stepped None cells p = p
+
+abbrev pub walked : ℕ → List Step → List ℕ → Player → Player
+walked zero program cells p = p
+walked (suc n) program cells p = walked n program cells (stepped (slice_get program p.place) cells p)
+
+-- The play of a player comes after some steps to one that waits or ends, and is over there: never because it has gone past
+-- the last step or taken too many. One that waits is over at a T, and one that ends at an E.
+pub record StopsAtStep (program : List Step) (cells : List ℕ) (p : Player) (play : Play) : Type 0 where
+  pub count : ℕ
+  pub step : Step
+  pub here : slice_get program (walked count program cells p).place ≡ Some step
+  pub stopping : stops step ≡ true
+  pub over : play ≡ play_step (Some step) cells (walked count program cells p) (waits cells)
+  pub waiting : play.ended ≡ false → step ≡ Wait
+  pub ending : play.ended ≡ true → step ≡ End
+
+-- The parties that joined the commit order, in their order.
+abbrev pub joined : List Event → List Party
+joined [] = []
+joined (Joined p ∷ events) = p ∷ joined events
+joined (event ∷ events) = joined events
+
+abbrev pub EachOnce : {A : Type 0} → List A → Type 0
+EachOnce [] = Unit {0}
+EachOnce (x ∷ xs) = (Member x xs → ⊥) × EachOnce xs
+
+-- The commit order is the parties that joined it, in the order in which they did, each once.
+pub record CommitOrder (s : State) (events : List Event) : Type 0 where
+  pub as_joined : s.order ≡ joined events
+  pub once : EachOnce s.order
+
+abbrev pub joining : Rule → ℕ → List Party
+joining C3 j = Job j ∷ []
+joining rule j = []
+
+abbrev pub is_settling : Call → Bool
+is_settling Settle = true
+is_settling c = false
+
+-- Who joins by a call that answers so: the correction of a filing that is accepted, also one that wrote nothing, and the job
+-- of a turn by c3.
+abbrev pub joiners : Call → Answer → List Party
+joiners (File slip) (OfAcceptance (Ok accepted)) = Correction slip.correction ∷ []
+joiners (Turn j) (OfTurn (Ok (Some applied))) = joining applied.rule j
+joiners c answer = []
+
+-- By every call but a settling, which is turns, they join last, and the order is otherwise as it was.
+abbrev pub JoinsLast : State → Type 0
+JoinsLast s = (c : Call) → is_settling c ≡ false → (call s c).next.order ≡ s.order ++ joiners c (call s c).answer
+
+-- What each call that answers so adds, in order.
+abbrev pub over : {A : Type 0} → (Call → Answer → List A) → List Call → List Answer → List A
+over own (c ∷ calls) (answer ∷ answers) = own c answer ++ over own calls answers
+over own calls answers = []
+
+-- The number that an accepted reading of a correction answers, and what an accepted reading or writing requests.
+abbrev pub answered : ℕ → Call → Answer → List ℕ
+answered k (Read slip cell) (OfReading (Ok number)) = cond (k == slip.correction) (number ∷ []) []
+answered k c answer = []
+
+abbrev pub accepted : ℕ → Call → Answer → List Request
+accepted k (Read slip cell) (OfReading (Ok number)) = cond (k == slip.correction) (Reads cell ∷ []) []
+accepted k (Write slip cell number) (OfAcceptance (Ok done)) = cond (k == slip.correction) (Writes cell number ∷ []) []
+accepted k c answer = []
+
+-- What a correction read and requested, by what happened, is what its accepted readings answered, and what its accepted
+-- readings and writings were.
+abbrev pub ReadAsAnswered : State → List Call → Type 0
+ReadAsAnswered s₀ calls =
+    (k : ℕ) →
+    (readings_of (events_of s₀ calls) (Correction k) ≡ over (answered k) calls (answers_of s₀ calls))
+    × (requests_of (events_of s₀ calls) k ≡ over (accepted k) calls (answers_of s₀ calls))
+
+-- A number that a job reads goes into the register that the step names.
+pub record ReadInto (b b' : JobState) (cell number : ℕ) : Type 0 where
+  pub register : ℕ
+  pub at_step : step_of b ≡ steps.Read register cell
+  pub loaded : b'.registers ≡ slice_set b.registers register number
+
+abbrev pub JobsRead : State → Type 0
+JobsRead s =
+    (j : ℕ) (b : JobState) → at s.jobs j ≡ Some b → (p : Party) (cell number : ℕ) → Member (ReadCell p cell number) (turn s j).events →
+    (p ≡ Job j) × ((b' : JobState) × (at (turn s j).next.jobs j ≡ Some b') × ReadInto b b' cell number)
+
+-- Whether an answer says that nothing was done: a refusal, or a turn to which no rule applied.
+abbrev pub is_idle : Answer → Bool
+is_idle (OfTurn (Err refusal)) = true
+is_idle (OfTurn (Ok None)) = true
+is_idle (OfOpening (Err refusal)) = true
+is_idle (OfReading (Err refusal)) = true
+is_idle (OfAcceptance (Err refusal)) = true
+is_idle answer = false
+
+-- Then the call changes nothing, and nothing happens: whichever call it is, with whatever numbers.
+abbrev pub IdleChangesNothing : State → Type 0
+IdleChangesNothing s = (c : Call) → is_idle (call s c).answer ≡ true → ((call s c).next ≡ s) × ((call s c).events ≡ [])
+
+-- A job that stands at its one step with a correction's logs, and the run in which it is the only job.
+abbrev pub standing : CorrectionState → List ℕ → Step → JobState
+standing f registers step = record { program = step ∷ []; stage = At 0; registers = registers; reads = f.reads; writes = f.writes; marked = false; starts = 0 }
+
+abbrev pub stand_in : State → CorrectionState → List ℕ → Step → State
+stand_in s f registers step = record s { jobs = standing f registers step ∷ [] }
+
+-- The correction with a job's logs; nothing else changes.
+abbrev pub with_logs_of : State → ℕ → JobState → State
+with_logs_of s k b = with_corrections s (put_at s.corrections k (correction true b.reads b.writes))
+
+-- Reading with a slip does what a job's turn at a reading step does: the same rule, by which the correction's logs become
+-- what the job's do, and the number is answered that comes into the register. Only a 25th cell is refused.
+abbrev pub ReadsAsJob : State → SlipNumbers → CorrectionState → ℕ → Type 0
+ReadsAsJob s slip f cell =
+    (((call s (Read slip cell)).answer ≡ OfReading (Err LogFull)) × (find f.writes cell ≡ None) × (find f.reads cell ≡ None) × (24 ≤ length f.reads))
+    ⊎ ((b : JobState) × (at (turn (stand_in s f no_registers (steps.Read 0 cell)) 1).next.jobs 1 ≡ Some b) × ((call s (Read slip cell)).answer ≡ OfReading (Ok (register b.registers 0))) × ((call s (Read slip cell)).next ≡ with_logs_of s slip.correction b) × ((call s (Read slip cell)).events ≡ ReadCell (Correction slip.correction) cell (register b.registers 0) ∷ []))
+
+-- Writing, likewise, does what a job's turn at a writing step does whose register has the number.
+abbrev pub WritesAsJob : State → SlipNumbers → CorrectionState → ℕ → ℕ → Type 0
+WritesAsJob s slip f cell number =
+    (((call s (Write slip cell number)).answer ≡ OfAcceptance (Err LogFull)) × (find f.writes cell ≡ None) × (24 ≤ length f.writes))
+    ⊎ ((b : JobState) × (at (turn (stand_in s f (slice_set no_registers 0 number) (steps.Write cell 0)) 1).next.jobs 1 ≡ Some b) × ((call s (Write slip cell number)).answer ≡ OfAcceptance (Ok tt)) × ((call s (Write slip cell number)).next ≡ with_logs_of s slip.correction b) × ((call s (Write slip cell number)).events ≡ WroteCell (Correction slip.correction) cell number ∷ []))
+
+abbrev pub CorrectionsGoAsJobs : State → Type 0
+CorrectionsGoAsJobs s =
+    (slip : SlipNumbers) (f : CorrectionState) → held s slip ≡ Some f → (cell : ℕ) → cell < length s.cells → ReadsAsJob s slip f cell × ((number : ℕ) → WritesAsJob s slip f cell number)
+
 pub record LawAfter (s₀ : State) (calls : List Call) : Type 0 where
   pub serial : Serial s₀ calls
   pub restarts : RestartsHaveACause (events_of s₀ calls)
@@ -151,6 +290,13 @@ pub record LawAfter (s₀ : State) (calls : List Call) : Type 0 where
   pub no_one_forgotten : NoOneForgotten (after s₀ calls)
   pub logs : LogsOrdered (after s₀ calls)
   pub settles : (settle (after s₀ calls)).next.right ≡ None
+  pub commit_order : CommitOrder (after s₀ calls) (events_of s₀ calls)
+  pub joins_last : JoinsLast (after s₀ calls)
+  pub read_as_answered : ReadAsAnswered s₀ calls
+  pub jobs_read : JobsRead (after s₀ calls)
+  pub idle_changes_nothing : IdleChangesNothing (after s₀ calls)
+  pub corrections_go_as_jobs : CorrectionsGoAsJobs (after s₀ calls)
+  pub plays_stop : (j : ℕ) (b : JobState) → at (after s₀ calls).jobs j ≡ Some b → (cells : List ℕ) → StopsAtStep b.program cells beginning (play_job b.program cells)
 
 -- The law of a run that was just sealed.
 abbrev pub Lawful : State → Type 0
@@ -182,17 +328,8 @@ opens_one (Withdraw slip ∷ calls) = opens_one calls
 abbrev pub NoneUntilOpened : Type 0
 NoneUntilOpened = (s : State) (calls : List Call) → s.corrections ≡ [] → opens_one calls ≡ false → (after s calls).corrections ≡ []
 
--- Every play of a well-formed program comes to a step that waits or ends, and is over there: a play is never over because
--- it has gone past the last step or taken too many.
-pub record StopsAtStep (program : List Step) (cells : List ℕ) (play : Play) : Type 0 where
-  pub player : Player
-  pub step : Step
-  pub here : slice_get program player.place ≡ Some step
-  pub stopping : stops step ≡ true
-  pub over : play ≡ play_step (Some step) cells player (waits cells)
-
 abbrev pub PlaysStop : Type 0
-PlaysStop = (program : List Step) (cells : List ℕ) → WellFormed program → StopsAtStep program cells (play_job program cells)
+PlaysStop = (program : List Step) (cells : List ℕ) → WellFormed program → StopsAtStep program cells beginning (play_job program cells)
 
 -- What is admitted is well formed.
 abbrev pub AdmissionSuffices : Type 0

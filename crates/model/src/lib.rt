@@ -205,7 +205,8 @@ impl fmt::Display for Rule {
 }
 
 // The law of runs: after any list of calls on a run of admissible jobs, refused calls included, the commit order
-// replayed alone gives the run's cells and readings, restarts have a cause, and no one is forgotten.
+// replayed alone gives the run's cells and readings, restarts have a cause, no one is forgotten, and answers, events and
+// the order tell the same.
 pub fn law_of_runs()
     ensures { Law }
 {}

@@ -1,1 +1,3 @@
+mod Reaching
+mod Requested
 mod Settling

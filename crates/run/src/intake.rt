@@ -1,8 +1,8 @@
 ghost use Rattle.std.specs.Prelude.{◌≡◌, []};
-ghost use Rattle.model.specs.Intake.{admit, sealed};
+ghost use Rattle.model.specs.Intake.{admit};
 ghost use Rattle.model.specs.Law.{Lawful};
 ghost use Rattle.table.specs.Intakes.{intake_of};
-ghost use Rattle.run.specs.Runs.{state};
+ghost use Rattle.run.specs.Runs.{begun, state};
 
 use crate::run::Run;
 use model::{Fault, Step};
@@ -39,7 +39,7 @@ impl<S: Store> Intake<S> {
 
     // Ends the intake and begins the run. From here on the law holds, whatever is called.
     pub fn seal(self) -> Run<S>
-        ensures sealed { state S.Store.cells result ≡ sealed (intake_of (S.Store.cells self.store) self.roster) }
+        ensures sealed { state S.Store.cells result ≡ begun S.Store.cells self }
         ensures lawful { Lawful (state S.Store.cells result) }
         ensures store { result.store ≡ self.store }
     {

@@ -1,3 +1,6 @@
+ghost use Rattle.run.specs.Reached.{Reached};
+ghost use Rattle.table.specs.States.{state_of};
+
 use store::Store;
 use table::table::Table;
 
@@ -6,4 +9,6 @@ use table::table::Table;
 pub struct Run<S: Store> {
     pub(crate) store: S,
     pub(crate) table: Table,
+    // Some intake was sealed, and some calls led here.
+    ghost reached: { ∥ Reached (state_of (S.Store.cells store) table) ∥₁ },
 }

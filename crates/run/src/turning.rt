@@ -1,5 +1,8 @@
-ghost use Rattle.std.specs.Prelude.{◌≡◌, ℕ, false, None};
-ghost use Rattle.model.specs.Calls.{turn, settle};
+ghost use Rattle.std.specs.Prelude.{◌≡◌, ℕ, List, false, None};
+ghost use Rattle.model.specs.Calls.{Call, turn, settle, after};
+ghost use Rattle.model.specs.Law.{CorrectionsGoAsJobs, IdleChangesNothing, JobsRead, JoinsLast, Lawful, left_by};
+ghost use Rattle.model.specs.Rules.{State};
+ghost use Rattle.run.specs.Reached.{Lawfully, LeftBy};
 ghost use Rattle.model.specs.Intake.{closed_cells, cell_answer, entry_answer, starts_answer};
 ghost use Rattle.run.specs.Runs.{state};
 ghost use Rattle.table.specs.Settings.{Through, by_c2, turn_sets};
@@ -47,6 +50,8 @@ impl<S: Store> Run<S> {
     // Settles, ends the run and gives its store back, the very one where the right was free.
     pub fn close(mut self) -> S
         ensures cells { S.Store.cells result ≡ closed_cells (state S.Store.cells self) }
+        ensures left { ∥ LeftBy (state S.Store.cells self) (S.Store.cells result) ∥₁ }
+        ensures serial { (s₀ : State) (calls : List Call) → Lawful s₀ → state S.Store.cells self ≡ after s₀ calls → S.Store.cells result ≡ left_by s₀ calls }
         ensures loan { S.Store.loan result ≡ S.Store.loan self.store }
         ensures store { Through S.Store.sets (settle (state S.Store.cells self)).events self.store result }
         ensures kept { (state S.Store.cells self).right ≡ None → result ≡ self.store }
@@ -55,6 +60,16 @@ impl<S: Store> Run<S> {
         let Run { store, table: _ } = self;
         store
     }
+
+    // That the law holds of this run, whoever made it and whatever was called; and, of the run as it stands, what the law
+    // says of one call more.
+    pub fn law(&self)
+        ensures lawful { ∥ Lawfully (state S.Store.cells self.now) ∥₁ }
+        ensures idle { IdleChangesNothing (state S.Store.cells self.now) }
+        ensures joins { JoinsLast (state S.Store.cells self.now) }
+        ensures reads { JobsRead (state S.Store.cells self.now) }
+        ensures as_jobs { CorrectionsGoAsJobs (state S.Store.cells self.now) }
+    {}
 
     // The number of a cell.
     pub fn cell(&self, cell: u32) -> Result<u32, Refusal>

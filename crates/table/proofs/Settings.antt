@@ -1,14 +1,16 @@
 -- How a store comes through a turn and through a filing.
 use Rattle.std.proofs.Common.{◌≡◌, ℕ, true, false, List, [], ◌∷◌, ◌++◌, Some, None, Ok, Option, ⊎_elim, ◌⊎◌, inl, inr, refl, sym, ap, ◌∙◌, subst, arith}
 use Rattle.cell_log.specs.Changes.{as_changes}
-use Rattle.model.specs.Calls.{Outcome, Turned, named, apply, turn, turn_of, settings_of}
-use Rattle.model.specs.Logs.{Log, find, value_in, at}
-use Rattle.model.specs.Rules.{JobState, State, Event, SetCell, TookRight, Joined, counted, step_of, rules_of, first_fit, effect, happens}
+use Rattle.model.specs.Calls.{Outcome, Turned, turn, settings_of}
+use Rattle.model.specs.Logs.{Log, find, value_in}
+use Rattle.model.specs.Rules.{JobState, State, Event, SetCell, TookRight, Joined, counted, effect, happens}
 use Rattle.model.specs.declared.Party.{Party}
 use Rattle.model.specs.declared.Rule.{Rule}
 use Rattle.model.specs.declared.Rule.TheVariants.{C2}
 use Rattle.model.specs.declared.Step.{Step}
 use Rattle.model.proofs.Basics.{zero_one}
+use Rattle.model.proofs.Cases.{ruled}
+use Rattle.model.proofs.Lifting.{turn-any}
 use Rattle.store.specs.Sets.{SetsEach}
 use Rattle.store.specs.declared.change.Change.{Change}
 use Rattle.table.specs.Settings.{Through, by_c2, changes_in, sets_cell, turn_sets}
@@ -48,16 +50,8 @@ module _ (s : State) (j : ℕ) where
   by_rule b step c C2 h = absurd (⊎_elim (counts_one s.settings) (λ (e : true ≡ false). zero_one (cc)) h)
   by_rule b step c r h = refl
 
-  by_fit : (b : JobState) (step : Step) (o : Option (Rule × ℕ)) → Quiet s (apply s j b step o) → changes_in (apply s j b step o).events ≡ []
-  by_fit b step None h = refl
-  by_fit b step (Some f) h = by_rule b step f.1 f.0 h
-
-  by_job : (o : Option JobState) → Quiet s (turn_of s j o) → changes_in (turn_of s j o).events ≡ []
-  by_job None h = refl
-  by_job (Some b) h = by_fit b (step_of b) (first_fit s j b (step_of b) (rules_of b.stage (step_of b))) h
-
   pub quiet : Quiet s (turn s j) → changes_in (turn s j).events ≡ []
-  quiet h = by_job (at s.jobs j) h
+  quiet = turn-any s j (λ o. Quiet s o → changes_in o.events ≡ []) (λ h. refl) (λ h. refl) (λ b e step c r f h. by_rule b step c r h)
 
 -- A turn by c2 sets its cell, and no other.
 abbrev cell_in : Turned → Option ℕ
@@ -68,20 +62,16 @@ abbrev SetsOne : Outcome Turned → Type 0
 SetsOne o = (cell : ℕ) → o.answer ≡ by_c2 cell → (number : ℕ) × (changes_in o.events ≡ record { cell = cell; number = number } ∷ [])
 
 module _ (s : State) (j : ℕ) where
-  c2-by_rule : (b : JobState) (step : Step) (c : ℕ) (r : Rule) → SetsOne (record { next = effect s j b step c r; answer = Ok (Some (record { rule = r; cell = named r c })); events = happens s j b c r })
+  c2-by_rule : (b : JobState) (step : Step) (c : ℕ) (r : Rule) → SetsOne (ruled s j b step c r)
   c2-by_rule b step c C2 cell e =
       let named_so : Some c ≡ Some cell = ap cell_in e in
       let q : c ≡ cell = cc in
       (value_in (find b.writes c), ap (λ (x : ℕ). record { cell = x; number = value_in (find b.writes c) } ∷ []) q)
   c2-by_rule b step c r cell e = let bad : sets_cell r ≡ true = ap turn_sets e in zero_one (cc)
 
-  c2-by_fit : (b : JobState) (step : Step) (o : Option (Rule × ℕ)) → SetsOne (apply s j b step o)
-  c2-by_fit b step None cell e = let bad : false ≡ true = ap turn_sets e in zero_one (cc)
-  c2-by_fit b step (Some f) cell e = c2-by_rule b step f.1 f.0 cell e
-
-  c2-by_job : (o : Option JobState) → SetsOne (turn_of s j o)
-  c2-by_job None cell e = let bad : false ≡ true = ap turn_sets e in zero_one (cc)
-  c2-by_job (Some b) cell e = c2-by_fit b (step_of b) (first_fit s j b (step_of b) (rules_of b.stage (step_of b))) cell e
+  sets-one : SetsOne (turn s j)
+  sets-one =
+      turn-any s j SetsOne (λ cell e. let bad : false ≡ true = ap turn_sets e in zero_one (cc)) (λ cell e. let bad : false ≡ true = ap turn_sets e in zero_one (cc)) (λ b h step c r f. c2-by_rule b step c r)
 
 module _ {S : Type 0} (sets : S → ℕ → ℕ → S → Type 0) (st : S) (s : State) (j : ℕ) where
   pub not_set : (next : State) → next ≡ (turn s j).next → next.settings ≡ s.settings → Through sets (turn s j).events st st
@@ -92,6 +82,6 @@ module _ {S : Type 0} (sets : S → ℕ → ℕ → S → Type 0) (st : S) (s : 
 
   pub set_once : (t : S) (a : Turned) (cell : ℕ) → a ≡ (turn s j).answer → a ≡ by_c2 cell → Through sets (turn s j).events st t → (number : ℕ) × sets st cell number t
   set_once t a cell e f x =
-      let one = c2-by_job s j (at s.jobs j) cell (sym e ∙ f) in
+      let one = sets-one s j cell (sym e ∙ f) in
       let y : SetsEach sets st (record { cell = cell; number = one.0 } ∷ []) t = subst (λ cs. SetsEach sets st cs t) one.1 x in
       (one.0, subst (λ u. sets st cell one.0 u) (sym y.2) y.1)

@@ -1,8 +1,8 @@
 use Rattle.std.proofs.Common.{◌+◌, ◌-◌, replicate, sym, ap, ◌∙◌}
 use Rattle.model.specs.Calls.{Turn, after}
 use Rattle.model.specs.Rules.{State}
+use Rattle.model.proofs.Closing.{turns_more}
 use Rattle.run.specs.Runs.{state}
-use Rattle.batch.proofs.Playing.{turns_more}
 use Rattle.batch.proofs.turns.give_turns.Goals as goal
 
 pub loop-preserved : goal.loop-preserved

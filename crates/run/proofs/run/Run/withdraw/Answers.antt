@@ -1,0 +1,8 @@
+use Rattle.model.specs.Calls.{Withdraw}
+use Rattle.run.specs.Runs.{state}
+use Rattle.run.specs.Slips.{numbers_of}
+use Rattle.run.proofs.Reaching.{by_call}
+use Rattle.run.proofs.run.Run.withdraw.Goals as goal
+
+pub invariant_of-self : goal.invariant_of-self
+invariant_of-self g c = record { reached = by_call (state g.S.Store.cells c.args.self.now) _ (Withdraw (numbers_of c.args.slip)) (c.withdraw-withdrawn.ensures (g.S.Store.cells c.args.self.now.store)).0 c.args.self.now.reached }
