@@ -3,8 +3,8 @@
 # After rt ci the program is there; else it is built first.
 set -u
 root=$(cd "$(dirname "$0")/.." && pwd -P)
-out=$(mktemp) err=$(mktemp)
-trap 'rm -f "$out" "$err"' EXIT
+out=$(mktemp) err=$(mktemp) longer=$(mktemp)
+trap 'rm -f "$out" "$err" "$longer"' EXIT
 
 fail() {
     echo "factrun: $1"
@@ -28,6 +28,12 @@ for input in "$root"/examples/*.listing; do
     expect "${input##*/}" "$status" "$(wc -l <"$expected")"
     cmp -s "$out" "$expected" && [ ! -s "$err" ] || fail "${input##*/}: prints something else"
 done
+# The largest listing that there can be, and a byte more.
+{ cat "$root/examples/largest.listing" && printf T; } >"$longer"
+[ "$(wc -c <"$longer")" -eq 65537 ] || fail "examples/largest.listing has not 65,536 bytes"
+input=$longer
+expect "65,537 bytes" 1 1
+[ "$(cat "$out")" = '!         13          1          1' ] || fail "65,537 bytes: prints something else"
 input=/dev/null
 expect --help 0 1 --help
 expect --version 0 1 --version

@@ -1,13 +1,11 @@
 -- A script within the bounds has all its jobs admitted.
-use Rattle.std.proofs.Common.{◌≡◌, ℕ, suc, List, [], ◌∷◌, ◌++◌, length, set, replicate, sym, refl, ap, ◌∙◌, subst, append_assoc, arith}
-use Rattle.std.proofs.lemmas.List.{append-nil, length_push, length-set, length-replicate}
-use Rattle.model.specs.Calls.{settle, after}
-use Rattle.model.specs.Intake.{Intake, admit_unless, sealed}
-use Rattle.model.specs.Rules.{State}
+use Rattle.std.proofs.Common.{◌≡◌, ℕ, suc, List, [], ◌∷◌, ◌++◌, length, sym, ap, ◌∙◌, subst, append_assoc, arith}
+use Rattle.std.proofs.lemmas.List.{append-nil, length_push}
+use Rattle.model.specs.Intake.{Intake, admit_unless}
 use Rattle.model.specs.declared.Step.{Step}
 use Rattle.script.specs.Scripts.{Script, Admitted, Within}
-use Rattle.script.specs.declared.Preset.{Preset}
-use Rattle.batch.specs.Runs.{calls_of, preset_in, admit_all, intake_for, final_state}
+use Rattle.store.proofs.Changes.{length-replay}
+use Rattle.batch.specs.Runs.{admit_all, intake_over, preset_changes}
 
 abbrev pub intake : ℕ → List ℕ → List (List Step) → Intake
 intake number cells programs = record { number = number; cells = cells; programs = programs }
@@ -20,17 +18,7 @@ all_admitted number cells programs (steps ∷ jobs) h =
     ap (λ o. admit_all (admit_unless (intake number cells programs) steps o).0 jobs) h.0
     ∙ (all_admitted number cells more jobs (subst (λ (m : ℕ). Admitted (length cells) m jobs) n h.1) ∙ ap (intake number cells) (append_assoc programs (steps ∷ []) jobs))
 
-length-preset : (cells : List ℕ) (presets : List Preset) → length (preset_in cells presets) ≡ length cells
-length-preset cells [] = refl
-length-preset cells (p ∷ presets) = length-preset (set cells p.cell p.number) presets ∙ length-set cells p.cell p.number
-
--- From the intake to the end of the run.
-module _ (s : Script) (within : Within s) (i : Intake) where
-  pub script-intake : i ≡ admit_all (intake 1 (preset_in (replicate s.count 0) s.presets) []) s.jobs → i ≡ intake_for s
-  script-intake e =
-      let cells = preset_in (replicate s.count 0) s.presets in
-      let count : s.count ≡ length cells = sym (length-preset (replicate s.count 0) s.presets ∙ length-replicate s.count 0) in
-      e ∙ all_admitted 1 cells [] s.jobs (subst (λ (n : ℕ). Admitted n 0 s.jobs) count within.jobs)
-
-  pub script-state : (s₀ s₁ s₂ : State) → i ≡ intake_for s → s₀ ≡ sealed i → s₁ ≡ after s₀ (calls_of s.turns) → s₂ ≡ (settle s₁).next → s₂ ≡ final_state s
-  script-state s₀ s₁ s₂ e a b c = c ∙ ap (λ (t : State). (settle t).next) (b ∙ ap (λ (t : State). after t (calls_of s.turns)) (a ∙ ap sealed e))
+pub script-intake : (s : Script) → Within s → (number : ℕ) (cells preset : List ℕ) → length cells ≡ s.count → preset ≡ (intake_over number cells s).cells → admit_all (intake number preset []) s.jobs ≡ intake_over number cells s
+script-intake s w number cells preset count e =
+    let many : s.count ≡ length preset = sym count ∙ (sym (length-replay cells (preset_changes s.presets)) ∙ sym (ap length e)) in
+    all_admitted number preset [] s.jobs (subst (λ (n : ℕ). Admitted n 0 s.jobs) many w.jobs) ∙ ap (λ (cs : List ℕ). intake number cs s.jobs) e

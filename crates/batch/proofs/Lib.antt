@@ -2,3 +2,7 @@ mod Playing
 mod Reporting
 mod Admitting
 mod Counting
+mod Determined
+mod Fitting
+mod Serially
+mod Telling

@@ -1,15 +1,17 @@
 -- The lines of a report, one after the other.
-use Rattle.std.proofs.Common.{◌≡◌, ℕ, zero, suc, ◌+◌, ◌-◌, ◌<◌, ◌≤◌, Bool, true, false, cond, ◌||◌, ltb, List, [], ◌∷◌, ◌++◌, length, drop, None, Ok, Err, Option, sym, refl, ap, ◌∙◌, append_assoc, add-one, arith}
-use Rattle.std.proofs.lemmas.Bool.{ltb-true, ltb-false}
+use Rattle.std.proofs.Common.{inl, inr, subst, Some, ◌^◌, ◌≡◌, ℕ, zero, suc, ◌+◌, ◌-◌, ◌<◌, ◌≤◌, Bool, true, false, cond, ◌||◌, ltb, List, [], ◌∷◌, ◌++◌, length, drop, None, Ok, Err, Option, sym, refl, ap, ◌∙◌, append_assoc, add-one, arith}
+use Rattle.std.proofs.lemmas.Bool.{cases_lt, ltb-true, ltb-false}
 use Rattle.std.proofs.lemmas.Option.{slice_get-get_or, slice_get_past}
 use Rattle.std.specs.List.{slice_get, list_any, range_with_len}
-use Rattle.std.proofs.lemmas.List.{append-nil, at_drop_all}
+use Rattle.std.proofs.lemmas.List.{append-nil, at_drop_all, length-map}
 use Rattle.model.specs.Intake.{cell_answer}
 use Rattle.model.specs.Logs.{at, cell_of}
-use Rattle.model.specs.Rules.{State}
+use Rattle.model.specs.Rules.{JobState, State}
 use Rattle.model.specs.declared.Party.{Party}
 use Rattle.model.specs.declared.Refusal.TheVariants.{NoSuchCell}
-use Rattle.batch.specs.Reports.{numbered, is_job, has_committed, cell_text, answer_text, cells_text}
+use Rattle.model.proofs.Basics.{zero_one}
+use Rattle.batch.specs.Played.{Words}
+use Rattle.batch.specs.Reports.{numbered, is_job, has_committed, cell_text, answer_text, cells_text, starts_in}
 
 -- What is written so far, and what is still to be written.
 pub record Lines (written before rest whole : List ℕ) : Type 0 where
@@ -80,3 +82,24 @@ cell_line s cell = cell_line_at s cell (ltb cell (length s.cells)) refl
 pub cells_next : (s : State) (k : ℕ) → cells_text k (drop k s.cells) ≡ answer_text k (cell_answer s k) ++ cells_text (k + 1) (drop (k + 1) s.cells)
 cells_next s k =
     rw (add-one, cell_line s k) (numbered-drop cell_text (λ n. refl) s.cells k k)
+
+-- Numbers of 32 bits, one place further, and all of them; places are counted from 1.
+abbrev pub FitBelow : List ℕ → ℕ → Type 0
+FitBelow ns k = (j n : ℕ) → j < k → at ns j ≡ Some n → n < 2 ^ 32
+
+pub one_fits : (ns : List ℕ) (k : ℕ) → ((n : ℕ) → at ns k ≡ Some n → n < 2 ^ 32) → FitBelow ns k → FitBelow ns (k + 1)
+one_fits ns k h below j n l e = elim (cases_lt j k) [
+  | inl l' ↦ below j n l' e
+  | inr l' ↦ let q : j ≡ k = omega (arith, l, l') in h n (subst (λ (x : ℕ). at ns x ≡ Some n) q e)
+]
+
+pub all_fit : (ns : List ℕ) (k : ℕ) → length ns < k → FitBelow ns k → Words ns
+all_fit [] k l below = tt
+all_fit (n ∷ ns) k l below = (below 1 n (omega (arith, l)) refl, all_fit ns (k - 1) (omega (arith, l)) rest)
+  where
+    rest : FitBelow ns (k - 1)
+    rest zero m l' e = zero_one (cc)
+    rest (suc j) m l' e = below (suc (suc j)) m (omega (arith, l')) e
+
+pub starts-many : (s : State) → length (starts_in s) ≡ length s.jobs
+starts-many s = length-map s.jobs (λ (b : JobState). b.starts)

@@ -1,7 +1,7 @@
 -- What is printed of a run and of a listing. Assumes nothing.
-use Rattle.std.specs.Prelude.{ℕ, suc, Bool, false, ◌||◌, List, [], ◌∷◌, ◌++◌, Some, None, Ok, Err, Option, Result, String, string_bytes}
+use Rattle.std.specs.Prelude.{ℕ, suc, Bool, false, ◌||◌, List, [], ◌∷◌, ◌++◌, map, Some, None, Ok, Err, Option, Result, String, string_bytes}
 use Rattle.model.specs.Law.{same}
-use Rattle.model.specs.Rules.{JobState, State}
+use Rattle.model.specs.Rules.{State}
 use Rattle.model.specs.declared.Refusal.{Refusal}
 use Rattle.model.specs.declared.Party.{Party}
 use Rattle.model.specs.declared.Party.TheVariants as party
@@ -33,7 +33,7 @@ entry_text place (Some p) = place_text place p
 abbrev pub order_text : ℕ → List Party → List ℕ
 order_text place order = numbered entry_text place order
 
--- N lines: the jobs, from 1.
+-- N lines: the jobs, from 1, with their starts.
 abbrev pub is_job : ℕ → Option Party → Bool
 is_job j None = false
 is_job j (Some p) = same (party.Job j) p
@@ -42,12 +42,12 @@ abbrev pub has_committed : List Party → ℕ → Bool
 has_committed [] j = false
 has_committed (p ∷ order) j = is_job j (Some p) || has_committed order j
 
-abbrev pub job_text : List Party → ℕ → Option JobState → List ℕ
+abbrev pub job_text : List Party → ℕ → Option ℕ → List ℕ
 job_text order j None = []
-job_text order j (Some b) = closed_line (Job j b.starts (has_committed order j))
+job_text order j (Some starts) = closed_line (Job j starts (has_committed order j))
 
-abbrev pub jobs_text : List Party → ℕ → List JobState → List ℕ
-jobs_text order j jobs = numbered (job_text order) j jobs
+abbrev pub jobs_text : List Party → ℕ → List ℕ → List ℕ
+jobs_text order j starts = numbered (job_text order) j starts
 
 -- C lines: the cells, from 0.
 abbrev pub cell_text : ℕ → Option ℕ → List ℕ
@@ -61,8 +61,15 @@ answer_text cell (Err refusal) = []
 abbrev pub cells_text : ℕ → List ℕ → List ℕ
 cells_text cell cells = numbered cell_text cell cells
 
+abbrev pub report_lines : List Party → List ℕ → List ℕ → List ℕ
+report_lines order starts cells = order_text 1 order ++ (jobs_text order 1 starts ++ cells_text 0 cells)
+
+-- How often each job started.
+abbrev pub starts_in : State → List ℕ
+starts_in s = map (λ b. b.starts) s.jobs
+
 abbrev pub report_text : State → List ℕ
-report_text s = order_text 1 s.order ++ (jobs_text s.order 1 s.jobs ++ cells_text 0 s.cells)
+report_text s = report_lines s.order (starts_in s) s.cells
 
 -- What is printed of a listing that comes to a script or to a fault.
 abbrev pub output_text : Result Script ListingFault → List ℕ

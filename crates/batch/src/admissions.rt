@@ -8,7 +8,8 @@ use store::Store;
 
 // Admits the jobs in their order.
 pub(crate) fn admit_all<S: Store>(intake: &mut Intake<S>, jobs: &[Program])
-    ensures { intake_in S.Store.cells intake.new ≡ admit_all (intake_in S.Store.cells intake.old) (map steps_in jobs.now) }
+    ensures intake { intake_in S.Store.cells intake.new ≡ admit_all (intake_in S.Store.cells intake.old) (map steps_in jobs.now) }
+    ensures store { intake.new.store ≡ intake.old.store }
 {
     for job in jobs {
         let _ = intake.admit(job.steps());

@@ -4,4 +4,5 @@
 mod admissions;
 pub mod output;
 mod reports;
+pub mod running;
 mod turns;

@@ -1,8 +1,9 @@
-ghost use Rattle.std.specs.Prelude.{◌≡◌, ◌++◌, IfOk, string_bytes, OnOk};
+ghost use Rattle.std.specs.Prelude.{◌≡◌, ℕ, ◌^◌, ◌<◌, ◌++◌, Some, IfOk, string_bytes, OnOk};
 ghost use Rattle.model.specs.Intake.{cell_answer};
 ghost use Rattle.model.specs.Logs.{at};
 ghost use Rattle.run.specs.Runs.{state};
-ghost use Rattle.batch.specs.Reports.{entry_text, order_text, has_committed, job_text, jobs_text, answer_text, cells_text, report_text};
+ghost use Rattle.batch.specs.Played.{Words};
+ghost use Rattle.batch.specs.Reports.{entry_text, order_text, has_committed, starts_in, job_text, jobs_text, answer_text, cells_text, report_text};
 
 use model::Party;
 use report::Line;
@@ -41,7 +42,8 @@ fn has_committed<S: Store>(run: &Run<S>, job: u32) -> bool
 
 // The N line of a job.
 fn write_job<S: Store>(out: &mut String, run: &Run<S>, job: u32) -> Result<(), AllocError>
-    ensures { OnOk result (string_bytes out.new ≡ string_bytes out.old ++ job_text (state S.Store.cells run.now).order job (at (state S.Store.cells run.now).jobs job)) }
+    ensures text { OnOk result (string_bytes out.new ≡ string_bytes out.old ++ job_text (state S.Store.cells run.now).order job (at (starts_in (state S.Store.cells run.now)) job)) }
+    ensures fit { OnOk result ((n : ℕ) → at (starts_in (state S.Store.cells run.now)) job ≡ Some n → n < 2 ^ 32) }
 {
     let Ok(starts) = run.starts(job) else {
         return Ok(());
@@ -57,7 +59,8 @@ fn write_job<S: Store>(out: &mut String, run: &Run<S>, job: u32) -> Result<(), A
 
 // The N lines.
 fn write_jobs<S: Store>(out: &mut String, run: &Run<S>) -> Result<(), AllocError>
-    ensures { OnOk result (string_bytes out.new ≡ string_bytes out.old ++ jobs_text (state S.Store.cells run.now).order 1 (state S.Store.cells run.now).jobs) }
+    ensures text { OnOk result (string_bytes out.new ≡ string_bytes out.old ++ jobs_text (state S.Store.cells run.now).order 1 (starts_in (state S.Store.cells run.now))) }
+    ensures fit { OnOk result (Words (starts_in (state S.Store.cells run.now))) }
 {
     for job in 1..=run.jobs() as u32 {
         write_job(out, run, job)?;
@@ -77,7 +80,8 @@ fn write_cell<S: Store>(out: &mut String, run: &Run<S>, cell: u32) -> Result<(),
 
 // The C lines.
 fn write_cells<S: Store>(out: &mut String, run: &Run<S>) -> Result<(), AllocError>
-    ensures { OnOk result (string_bytes out.new ≡ string_bytes out.old ++ cells_text 0 (state S.Store.cells run.now).cells) }
+    ensures text { OnOk result (string_bytes out.new ≡ string_bytes out.old ++ cells_text 0 (state S.Store.cells run.now).cells) }
+    ensures fit { Words (state S.Store.cells run.now).cells }
 {
     for cell in 0..run.count() as u32 {
         write_cell(out, run, cell)?;
@@ -85,9 +89,11 @@ fn write_cells<S: Store>(out: &mut String, run: &Run<S>) -> Result<(), AllocErro
     Ok(())
 }
 
-// What is printed of a run.
+// What is printed of a run: its order, its starts and its cells, each a number of 32 bits.
 pub(crate) fn report_of<S: Store>(heap: Global, run: &Run<S>) -> Result<String, AllocError>
-    ensures { IfOk result (λ t. string_bytes t ≡ report_text (state S.Store.cells run.now)) }
+    ensures text { IfOk result (λ t. string_bytes t ≡ report_text (state S.Store.cells run.now)) }
+    ensures starts { OnOk result (Words (starts_in (state S.Store.cells run.now))) }
+    ensures cells { OnOk result (Words (state S.Store.cells run.now).cells) }
 {
     let mut out = String::new(heap);
     write_order(&mut out, run)?;

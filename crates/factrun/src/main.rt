@@ -1,6 +1,7 @@
 #![tactic(auto)]
 
 use batch::output::run_listing;
+use listing_reader::read::MOST_BYTES;
 use std::env;
 use std::io::Read;
 use std::process::ExitCode;
@@ -10,14 +11,14 @@ const HELP: &str =
 
 const VERSION: &str = "factrun 1.0";
 
-// A listing may have 65,536 bytes. One more is enough to see that it is too long.
-const MOST_BYTES: u64 = 65_537;
-
 // Runs the listing on standard input and prints what came of it. A refused listing ends the program with status 1.
 fn run(rt: &HostRuntime) -> anyhow::Result<ExitCode> {
     let heap = rt.alloc();
     let mut listing = Vec::new(heap);
-    rt.stdin().take(MOST_BYTES).read_to_end(&mut listing)?;
+    // One byte more than a listing may have is enough to see that it is too long.
+    rt.stdin()
+        .take(MOST_BYTES as u64 + 1)
+        .read_to_end(&mut listing)?;
     let (text, status) = match run_listing(heap, listing.as_slice())? {
         Ok(report) => (report, ExitCode::SUCCESS),
         Err(fault) => (fault, ExitCode::FAILURE),

@@ -11,8 +11,8 @@ use crate::room::Room;
 use crate::script_read::Script;
 use script::{Cause, Group, Kind, ListingFault, Section};
 
-// How many bytes a listing may have.
-const MOST_BYTES: usize = 65_536;
+/// How many bytes a listing may have.
+pub const MOST_BYTES: usize = 65_536;
 
 // Whether a letter is that of a step.
 fn is_step(letter: Option<char>) -> bool

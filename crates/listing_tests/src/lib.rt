@@ -10,4 +10,6 @@ mod outputs;
 #[cfg(test)]
 mod reader;
 #[cfg(test)]
+mod scripts;
+#[cfg(test)]
 mod words;

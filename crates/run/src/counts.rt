@@ -1,14 +1,15 @@
-ghost use Rattle.std.specs.Prelude.{◌≡◌, ◌≤◌, length};
+ghost use Rattle.std.specs.Prelude.{◌≡◌, ℕ, ◌^◌, ◌<◌, ◌≤◌, length, slice_index};
 ghost use Rattle.run.specs.Runs.{state};
 
 use crate::run::Run;
 use store::Store;
 
 impl<S: Store> Run<S> {
-    // How many cells there are.
+    // How many cells there are. The number of each has 32 bits.
     pub fn count(&self) -> usize
         ensures value { result ≡ length (state S.Store.cells self.now).cells }
         ensures few { result ≤ 65536 }
+        ensures fit { (k : ℕ) → slice_index (state S.Store.cells self.now).cells k < 2 ^ 32 }
     {
         self.store.count()
     }
