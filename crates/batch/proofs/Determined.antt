@@ -112,8 +112,8 @@ module _ (r q : Report) (fits : Printable r) (fits' : Printable q) (same : text_
 
   pub one-report : q ≡ r
   one-report =
-      ap (λ (o : List ℕ). record { order = o; starts = q.starts; cells = q.cells }) orders.0
-      ∙ (ap (λ (n : List ℕ). record { order = r.order; starts = n; cells = q.cells }) jobs.0 ∙ ap (λ (c : List ℕ). record { order = r.order; starts = r.starts; cells = c }) cells)
+      ap (λ (o : List ℕ). record q { order = o }) orders.0
+      ∙ (ap (λ (n : List ℕ). record q { order = r.order; starts = n }) jobs.0 ∙ ap (λ (c : List ℕ). record r { cells = c }) cells)
 
 -- A line with the letter of a fault begins no report.
 pub no_fault_begins : (r : Report) → begins 33 (text_of r) ≡ false

@@ -10,7 +10,7 @@ use Rattle.model.specs.Rules.{JobState, State}
 use Rattle.model.specs.declared.Party.{Party}
 use Rattle.model.specs.declared.Refusal.TheVariants.{NoSuchCell}
 use Rattle.model.proofs.Basics.{zero_one}
-use Rattle.batch.specs.Played.{Words}
+use Rattle.script.specs.Scripts.{Words}
 use Rattle.batch.specs.Reports.{numbered, is_job, has_committed, cell_text, answer_text, cells_text, starts_in}
 
 -- What is written so far, and what is still to be written.

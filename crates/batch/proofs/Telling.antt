@@ -2,9 +2,9 @@
 use Rattle.std.proofs.Common.{◌≡◌, ℕ, List, Ok, Err, Result, String, string_bytes, IfOk, sym, refl, ap, ◌∙◌}
 use Rattle.std.proofs.lemmas.List.{length-map, length-replicate}
 use Rattle.model.specs.Intake.{new_job}
-use Rattle.script.specs.Scripts.{Script, Within}
+use Rattle.script.specs.Scripts.{Script, Within, Words}
 use Rattle.store.proofs.Changes.{length-replay}
-use Rattle.batch.specs.Played.{Printable, Report, Told, Words}
+use Rattle.batch.specs.Played.{Printable, Report, Told}
 use Rattle.batch.specs.Reports.{report_lines, report_text, starts_in}
 use Rattle.batch.specs.Runs.{final_state, intake_for, preset_changes, zeros}
 use Rattle.batch.proofs.Determined.{one-report}

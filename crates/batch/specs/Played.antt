@@ -1,5 +1,5 @@
 -- What the jobs that committed leave, played one by one, and what a printed report tells of it. Assumes nothing.
-use Rattle.std.specs.Prelude.{◌≡◌, ℕ, ◌^◌, ◌<◌, true, List, [], map, length, Ok, Err, Option, Some, None, Result}
+use Rattle.std.specs.Prelude.{◌≡◌, ℕ, true, List, [], map, length, Ok, Err, Option, Some, None, Result}
 use Rattle.model.specs.Intake.{Intake}
 use Rattle.model.specs.Law.{EachOnce}
 use Rattle.model.specs.Logs.{at}
@@ -7,7 +7,7 @@ use Rattle.model.specs.Replay.{Parts, plays, replayed}
 use Rattle.model.specs.Rules.{State}
 use Rattle.model.specs.declared.Party.TheVariants.{Job}
 use Rattle.model.specs.declared.Step.{Step}
-use Rattle.script.specs.Scripts.{Script, All}
+use Rattle.script.specs.Scripts.{Script, All, Words}
 use Rattle.script.specs.declared.ListingFault.{ListingFault}
 use Rattle.batch.specs.Reports.{report_lines, starts_in}
 use Rattle.batch.specs.Runs.{final_state, intake_for}
@@ -42,9 +42,6 @@ abbrev pub text_of : Report → List ℕ
 text_of r = report_lines (map Job r.order) r.starts r.cells
 
 -- A report in numbers of 32 bits, which are all that can be printed.
-abbrev pub Words : List ℕ → Type 0
-Words ns = All (λ n. n < 2 ^ 32) ns
-
 abbrev pub Printable : Report → Type 0
 Printable r = Words r.order × Words r.starts × Words r.cells
 

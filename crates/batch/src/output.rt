@@ -2,7 +2,8 @@ ghost use Rattle.std.specs.Prelude.{◌≡◌, replicate, is_ok, IfOk, Err, stri
 ghost use Rattle.listing_reader.specs.Drafts.{script_in};
 ghost use Rattle.model.specs.Intake.{closed_cells};
 ghost use Rattle.script.specs.Faults.{outcome};
-ghost use Rattle.batch.specs.Played.{Told, ToldOf, Words};
+ghost use Rattle.script.specs.Scripts.{Words};
+ghost use Rattle.batch.specs.Played.{Told, ToldOf};
 ghost use Rattle.batch.specs.Reports.{report_text, printed, output_text, starts_in};
 ghost use Rattle.batch.specs.Runs.{final_state, zeros};
 

@@ -2,7 +2,7 @@ ghost use Rattle.std.specs.Prelude.{◌≡◌, ℕ, ◌^◌, ◌<◌, ◌++◌, 
 ghost use Rattle.model.specs.Intake.{cell_answer};
 ghost use Rattle.model.specs.Logs.{at};
 ghost use Rattle.run.specs.Runs.{state};
-ghost use Rattle.batch.specs.Played.{Words};
+ghost use Rattle.script.specs.Scripts.{Words};
 ghost use Rattle.batch.specs.Reports.{entry_text, order_text, has_committed, starts_in, job_text, jobs_text, answer_text, cells_text, report_text};
 
 use model::Party;

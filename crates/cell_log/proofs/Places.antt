@@ -1,18 +1,14 @@
 -- What the place of a cell tells of its log.
-use Rattle.std.proofs.Common.{◌≡◌, ℕ, zero, suc, ◌<◌, ◌≤◌, true, [], ◌∷◌, length, get_or, None, Ok, Err, Option, Result, sym, refl, ap, subst, arith}
-use Rattle.std.specs.List.Sorted.{IsSearchInRange, IsBinarySearchResult, IsNonDecreasingBy}
-use Rattle.std.specs.Ordering.{nat_cmp, ordering_index}
-use Rattle.std.proofs.lemmas.Bool.{lt-ltb, le-ltb, eq-eqb, ne_eqb}
-use Rattle.std.proofs.lemmas.Bool.Decides.{nat_tests}
-use Rattle.std.proofs.lemmas.Cmp.{ranked}
-use Rattle.std.proofs.lemmas.List.Sorted.{IsNonDecreasingBy-from_default}
+use Rattle.std.proofs.Common.{◌≡◌, ℕ, zero, suc, ◌<◌, ◌≤◌, [], ◌∷◌, length, get_or, Some, None, Ok, Err, Option, Bool, leb, ltb, sym, refl, ap, arith}
+use Rattle.std.specs.List.{position, position_or_len}
+use Rattle.std.proofs.lemmas.Bool.{lt-ltb, le-ltb, eq-eqb, ne_eqb, leb-true, leb-false, ltb-false}
+use Rattle.std.proofs.lemmas.List.Sums.{fails_before_first}
+use Rattle.std.proofs.lemmas.List.Quantifiers.{position-Some}
+use Rattle.model.proofs.Basics.{by_bool, zero_one}
 use Rattle.model.specs.Logs.{Log, Above, Ascending, entry, find, remove}
 use Rattle.model.specs.declared.Entry.{Entry}
 use Rattle.model.proofs.LogLaws.{above_less}
-use Rattle.cell_log.specs.Rows.{entries_of, sound}
 use Rattle.cell_log.specs.Places.{Has, Placed}
-use Rattle.cell_log.specs.declared.row.LogRow.{LogRow}
-use Rattle.cell_log.proofs.Soundness.{sound_sized}
 
 has_further : (e : Entry) (l : Log) (c : ℕ) (o : Option ℕ) (f : ℕ → Log) (r : Log) → e.cell < c → Has l c o f r → Has (e ∷ l) c o (λ n. e ∷ f n) (e ∷ r)
 has_further e l c o f r h s =
@@ -74,21 +70,25 @@ placed_between (e ∷ l) c (suc i) a h less more =
     let rest = placed_between l c i a.1 (omega arith) (λ k lt. less (suc k) (omega arith)) (λ k le lt. more (suc k) (omega arith) (omega arith)) in
     (h, has_further e l c _ _ _ (less 0 (omega arith)) rest.1)
 
-comparisons_rise : (l : Log) (c : ℕ) → Ascending l → IsNonDecreasingBy (λ (e : Entry). ordering_index (nat_cmp e.cell c)) l
-comparisons_rise l c a =
-    IsNonDecreasingBy-from_default (λ (e : Entry). ordering_index (nat_cmp e.cell c)) l (entry 0 0) (λ i j le h.
-    let r = rises l i j (entry 0 0) a le h in
-    grind (arith, nat_tests))
+-- The first entry that is not below the cell tells its place.
+module _ (l : Log) (c : ℕ) (a : Ascending l) where
+  abbrev none : Entry
+  none = entry 0 0
 
--- A binary search by the cell ends at the cell's place.
-pub sought : (r : LogRow) (es : Log) (c : ℕ) (o : Result ℕ ℕ) → sound r ≡ true → es ≡ entries_of r → IsSearchInRange o (length es) → IsBinarySearchResult (λ (e : Entry). nat_cmp e.cell c) es o → Placed (entries_of r) c o
-sought r es c (Ok i) h e within equal =
-    let a = subst Ascending (sym e) (sound_sized r h).0 in
-    subst (λ l. Placed l c (Ok i)) e (placed_at es c i a within (ranked _ c _ (sym (equal (entry 0 0)))))
-sought r es c (Err i) h e within parted =
-    let a = subst Ascending (sym e) (sound_sized r h).0 in
-    let parts = parted (comparisons_rise es c a) in
-    subst (λ l. Placed l c (Err i)) e
-    (placed_between es c i a within
-    (λ k lt. ranked _ c _ (sym (parts.0 k (entry 0 0) (omega arith) lt)))
-    (λ k le lt. ranked _ c _ (sym (parts.1 k (entry 0 0) le lt))))
+  abbrev reaches : Entry → Bool
+  reaches e = leb c e.cell
+
+  pub first_is : (i : ℕ) → Some i ≡ position reaches l → (get_or l i none).cell ≡ c → Placed l c (Ok i)
+  first_is i p q = placed_at l c i a (position-Some reaches l i none (sym p)).0 q
+
+  pub first_over : (i : ℕ) → Some i ≡ position reaches l → ((get_or l i none).cell ≡ c → ⊥) → Placed l c (Err i)
+  first_over i p n =
+      let s = position-Some reaches l i none (sym p) in
+      let over : c < (get_or l i none).cell = omega (arith, leb-true c (get_or l i none).cell s.1, n) in
+      placed_between l c i a (omega (arith, s.0)) (λ k lt. omega (arith, leb-false c (get_or l k none).cell (s.2 k lt))) (λ k le lt. omega (arith, over, rises l i k none a le lt))
+
+  pub none_over : None ≡ position reaches l → Placed l c (Err (length l))
+  none_over p =
+      let n = position_or_len reaches l in
+      let past : length l ≤ n = by_bool (ltb n (length l)) (λ t. zero_one (let q = rw t at p in cc)) (λ t. ltb-false n (length l) t) in
+      placed_between l c (length l) a (omega arith) (λ k lt. omega (arith, leb-false c (get_or l k none).cell (fails_before_first reaches l k none (omega (arith, past, lt))))) (λ k le lt. absurd (omega (arith, le, lt)))

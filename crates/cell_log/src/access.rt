@@ -8,11 +8,12 @@ use crate::log::Log;
 use crate::lookups::Lookups;
 use crate::row::LogRow;
 use crate::scans::number_at;
+use crate::view::LogIn;
 use model::Refusal;
 use store::Store;
 
 // The log in a row, to be changed. The rows of `Logs` always pass the check.
-fn log_in(row: LogRow) -> Log
+fn log_of(row: LogRow) -> Log
     requires { sound row ≡ true }
     ensures { result.row ≡ row }
 {
@@ -20,6 +21,20 @@ fn log_in(row: LogRow) -> Log
 }
 
 impl Logs {
+    // The read log, to be looked up. The row always passes the check.
+    pub fn reads(&self) -> LogIn<'_>
+        ensures { result.row.now ≡ self.now.reads }
+    {
+        LogIn::try_from(&self.reads).unwrap()
+    }
+
+    // The write log, likewise.
+    pub fn writes(&self) -> LogIn<'_>
+        ensures { result.row.now ≡ self.now.writes }
+    {
+        LogIn::try_from(&self.writes).unwrap()
+    }
+
     pub fn empty() -> Logs
         ensures reads { entries_of result.reads ≡ [] }
         ensures writes { entries_of result.writes ≡ [] }
@@ -36,16 +51,16 @@ impl Logs {
         ensures err { IfErr result (λ e. (e ≡ Refusal.LogFull) × FullFor cell self.old × (self.new ≡ self.old)) }
         ensures room { length (entries_of self.old.reads) < 24 → IsOk result }
     {
-        if let Some(number) = self.writes.number(cell) {
+        if let Some(number) = self.writes().number(cell) {
             let found = Found::InWrites;
             return Ok(Reading { number, found });
         }
-        if let Some(number) = self.reads.number(cell) {
+        if let Some(number) = self.reads().number(cell) {
             let found = Found::InReads;
             return Ok(Reading { number, found });
         }
         let number = number_at(store, cell);
-        let reads = log_in(self.reads)
+        let reads = log_of(self.reads)
             .put(cell, number)
             .ok_or(Refusal::LogFull)?;
         self.reads = LogRow::from(reads);
@@ -59,7 +74,7 @@ impl Logs {
         ensures ok { OnOk result ((entries_of self.new.writes ≡ put (entries_of self.old.writes) cell number) × (self.new.reads ≡ self.old.reads)) }
         ensures err { IfErr result (λ e. (e ≡ Refusal.LogFull) × (self.new ≡ self.old)) }
     {
-        let writes = log_in(self.writes)
+        let writes = log_of(self.writes)
             .put(cell, number)
             .ok_or(Refusal::LogFull)?;
         self.writes = LogRow::from(writes);
@@ -71,7 +86,7 @@ impl Logs {
         ensures reads { entries_of self.new.reads ≡ remove (entries_of self.old.reads) cell }
         ensures writes { self.new.writes ≡ self.old.writes }
     {
-        self.reads = LogRow::from(log_in(self.reads).remove(cell));
+        self.reads = LogRow::from(log_of(self.reads).remove(cell));
     }
 
     // Takes the entry of a cell out of the write log.
@@ -79,6 +94,6 @@ impl Logs {
         ensures writes { entries_of self.new.writes ≡ remove (entries_of self.old.writes) cell }
         ensures reads { self.new.reads ≡ self.old.reads }
     {
-        self.writes = LogRow::from(log_in(self.writes).remove(cell));
+        self.writes = LogRow::from(log_of(self.writes).remove(cell));
     }
 }

@@ -1,6 +1,5 @@
 ghost use Rattle.std.specs.Prelude.{◌≡◌, ◌||◌, length, is_some, IfSome, nat_lt};
 ghost use Rattle.model.specs.Logs.{find, put, remove};
-ghost use Rattle.cell_log.specs.Places.{Placed};
 ghost use Rattle.cell_log.specs.Rows.{entries_of};
 
 use crate::log::Log;
@@ -9,13 +8,6 @@ use crate::row::ROOM;
 use model::Entry;
 
 impl Log {
-    // Where the entry of a cell stands, or where it would go.
-    pub(crate) fn place(&self, cell: u32) -> Result<usize, usize>
-        ensures { Placed (entries_of self.now.row) cell result }
-    {
-        self.entries().binary_search_by_key(&cell, |e| e.cell)
-    }
-
     // The log with that number for that cell, in place of an older one; `None` where it would be the 25th entry.
     pub fn put(self, cell: u32, number: u32) -> Option<Log>
         ensures answer { is_some result ≡ (nat_lt (length (entries_of self.row)) 24 || is_some (find (entries_of self.row) cell)) }

@@ -1,18 +1,20 @@
-ghost use Rattle.std.specs.Prelude.{◌≡◌, ℕ, ◌≤◌, List, length, min};
+ghost use Rattle.std.specs.Prelude.{◌≡◌, ℕ, ◌≤◌, true, List, length};
 ghost use Rattle.model.specs.Logs.{find, lowest, any, current, changed, set_all};
 ghost use Rattle.model.specs.declared.Entry.{Entry as Logged};
 ghost use Rattle.cell_log.specs.Changes.{as_changes};
-ghost use Rattle.cell_log.specs.Rows.{entries_of};
+ghost use Rattle.cell_log.specs.Lowest.{NoneBelow};
+ghost use Rattle.cell_log.specs.Places.{Placed};
+ghost use Rattle.cell_log.specs.Rows.{entries_of, ascends};
+ghost use Rattle.store.specs.Changes.{distinct};
 ghost use Rattle.store.specs.Sets.{SetsEach};
 
 use crate::log::Log;
-use crate::row::{LogRow, ROOM};
-use crate::scans::is_current;
+use crate::scans::{is_current, place_of};
+use crate::view::LogIn;
 use model::Entry;
 use store::Store;
 
-// What is looked up in a log, and in the row of a log where it lies. The first entry that fits is taken, so nothing
-// here rests on the order.
+// What is looked up in a log, and in a log where it lies in a row: ascending, each cell once, at most 24.
 pub trait Lookups {
     // The entries, from the lowest cell on.
     ghost list: { Self → List Logged };
@@ -23,14 +25,22 @@ pub trait Lookups {
     fn entries(&self) -> &[Entry]
         ensures value { result.now ≡ list self.now }
         ensures len { length result.now ≡ count self.now }
-        ensures few { length result.now ≤ 24 };
+        ensures few { length result.now ≤ 24 }
+        ensures ordered { ascends result.now ≡ true };
+
+    // Where the entry of a cell stands, or where it would go.
+    final fn place(&self, cell: u32) -> Result<usize, usize>
+        ensures { Placed (list self.now) cell result }
+    {
+        place_of(self.entries(), cell)
+    }
 
     // The number for a cell.
-    fn number(&self, cell: u32) -> Option<u32>
+    final fn number(&self, cell: u32) -> Option<u32>
         ensures { result ≡ find (list self.now) cell }
     {
-        let first = self.entries().iter().find(|e| e.cell == cell);
-        first.map(|e| e.number)
+        let i = self.place(cell).ok()?;
+        Some(self.entries()[i].number)
     }
 
     final fn len(&self) -> usize
@@ -43,7 +53,8 @@ pub trait Lookups {
 
     // The lowest cell.
     final fn lowest(&self) -> Option<u32>
-        ensures { result ≡ lowest any (list self.now) }
+        ensures first { result ≡ lowest any (list self.now) }
+        ensures least { NoneBelow any (list self.now) result }
     {
         self.entries().first().map(|e| e.cell)
     }
@@ -51,7 +62,8 @@ pub trait Lookups {
     // The lowest cell whose number here still is its number in the store. Two lookups, this and the next: each promises the
     // definition of its own rule, and one for both would promise the two of them by a flag.
     final fn lowest_current<S: Store>(&self, store: &S) -> Option<u32>
-        ensures { result ≡ lowest (current (S.Store.cells store.now)) (list self.now) }
+        ensures first { result ≡ lowest (current (S.Store.cells store.now)) (list self.now) }
+        ensures least { NoneBelow (current (S.Store.cells store.now)) (list self.now) result }
     {
         let first = self.entries().iter().find(|e| is_current(store, e));
         first.map(|e| e.cell)
@@ -59,7 +71,8 @@ pub trait Lookups {
 
     // The lowest cell whose number here differs from its number in the store.
     final fn lowest_changed<S: Store>(&self, store: &S) -> Option<u32>
-        ensures { result ≡ lowest (changed (S.Store.cells store.now)) (list self.now) }
+        ensures first { result ≡ lowest (changed (S.Store.cells store.now)) (list self.now) }
+        ensures least { NoneBelow (changed (S.Store.cells store.now)) (list self.now) result }
     {
         let first = self.entries().iter().find(|e| !is_current(store, e));
         first.map(|e| e.cell)
@@ -70,20 +83,11 @@ pub trait Lookups {
         ensures after { S.Store.cells store.new ≡ set_all (list self.now) (S.Store.cells store.old) }
         ensures same { S.Store.loan store.new ≡ S.Store.loan store.old }
         ensures each { SetsEach S.Store.sets store.old (as_changes (list self.now)) store.new }
+        ensures once { distinct (as_changes (list self.now)) ≡ true }
     {
         for logged in self.entries() {
             let _ = store.set(logged.cell, logged.number);
         }
-    }
-}
-
-impl Lookups for LogRow {
-    ghost list = { entries_of };
-
-    ghost count = { λ row. min row.len 24 };
-
-    fn entries(&self) -> &[Entry] {
-        &self.entries[0..self.len.min(ROOM)]
     }
 }
 
@@ -93,12 +97,16 @@ impl Lookups for Log {
     ghost count = { λ log. log.row.len };
 
     fn entries(&self) -> &[Entry] {
-        &self.row.entries[0..self.row.len]
+        self.row.filled()
     }
+}
 
-    // The order lets the search halve what is left.
-    fn number(&self, cell: u32) -> Option<u32> {
-        let i = self.place(cell).ok()?;
-        Some(self.entries()[i].number)
+impl<'a> Lookups for LogIn<'a> {
+    ghost list = { λ log. entries_of log.row.now };
+
+    ghost count = { λ log. log.row.now.len };
+
+    fn entries(&self) -> &[Entry] {
+        self.row.filled()
     }
 }

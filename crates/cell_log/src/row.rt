@@ -1,15 +1,16 @@
-ghost use Rattle.std.specs.Prelude.{◌≡◌, suc, ◌<◌, ◌≤◌, true, [], slice_set};
+ghost use Rattle.std.specs.Prelude.{◌≡◌, suc, ◌<◌, ◌≤◌, true, [], length, slice_set};
 ghost use Rattle.std.specs.List.{insert, remove};
 ghost use Rattle.cell_log.specs.Rows.{entries_of, sound};
 
+use crate::scans::is_ascending;
 use model::Entry;
 
 // How many entries a log has room for: a job has at most 24 steps, and a step logs one cell at most.
 pub const ROOM: usize = 24;
 
-// A log as it lies in a job or a correction. Nothing is promised of it: `Log::try_from` looks.
+// A log as it lies in a job or a correction. Nothing is promised of it: who makes a `Log` or a `LogIn` of it looks.
 // Array and length side by side and no `ArrayVec`, since a row is plain: it is copied with what it lies in, its fields are
-// public, and any length may stand in it until `Log::try_from` looks.
+// public, and any length may stand in it until then.
 #[derive(Clone, Copy)]
 pub struct LogRow {
     pub entries: [Entry; ROOM],
@@ -17,6 +18,22 @@ pub struct LogRow {
 }
 
 impl LogRow {
+    // Whether the row holds a log: no more entries than it has room for, ascending by cell, each cell once.
+    pub(crate) fn is_sound(&self) -> bool
+        ensures { result ≡ sound self.now }
+    {
+        self.len <= ROOM && is_ascending(self.filled())
+    }
+
+    // The entries of a row that has room for as many as it says.
+    pub(crate) fn filled(&self) -> &[Entry]
+        requires { self.now.len ≤ 24 }
+        ensures value { result.now ≡ entries_of self.now }
+        ensures len { length result.now ≡ self.now.len }
+    {
+        &self.entries[0..self.len]
+    }
+
     pub fn empty() -> LogRow
         ensures value { entries_of result ≡ [] }
         ensures ordered { sound result ≡ true }

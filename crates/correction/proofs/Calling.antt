@@ -2,6 +2,7 @@
 use Rattle.std.proofs.Common.{◌≡◌, ℕ, ◌<◌, Bool, true, false, cond, ◌||◌, ltb, List, [], ◌∷◌, length, is_some, is_ok, IfOk, IfErr, OnOk, Some, None, Ok, Err, Option, Result, sym, refl, ap, ◌∙◌, subst}
 use Rattle.std.proofs.lemmas.Bool.{lt-ltb, or_parts}
 use Rattle.model.specs.Calls.{correction, refuse, with_corrections, if_open, read_by, write_by}
+use Rattle.model.specs.Intake.{sealed}
 use Rattle.model.specs.Logs.{Log, find, put, put_at}
 use Rattle.model.specs.Rules.{CorrectionState, State}
 use Rattle.model.specs.declared.Refusal.{Refusal}
@@ -98,7 +99,7 @@ module _ (cells : List ℕ) (cell : ℕ) (old : Logs) (is_open : Bool) (opened :
 -- A call that refuses what is not open leaves a closed correction as it was.
 pub stays_closed : {A : Type 0} (call : CallOn A) (cells : List ℕ) (f f' : CorrectionState) (r : Result A Refusal) → ((s : State) (k : ℕ) → (call s k None).next ≡ s) → Comes call cells f f' r → f.is_open ≡ false → f'.is_open ≡ false
 stays_closed call cells f f' r h x e =
-    let s : State = record { number = 0; cells = cells; jobs = []; corrections = f ∷ []; right = None; order = []; takings = 0; settings = 0 } in
+    let s : State = record (sealed (record { number = 0; cells = cells; programs = [] })) { corrections = f ∷ [] } in
     let same = sym (h s 1) ∙ (ap (λ b. (call s 1 (cond b (Some f) None)).next) (sym e) ∙ (x s 1 refl refl).0) in
     sym (ap (λ z. first z.corrections) same) ∙ e
   where

@@ -69,7 +69,7 @@ impl Correction {
         if right.is_some() {
             return Err(Refusal::RightHeld);
         }
-        match self.logs.reads.lowest_changed(store) {
+        match self.logs.reads().lowest_changed(store) {
             Some(cell) => Err(Refusal::Changed { cell }),
             None => Ok(()),
         }
@@ -83,9 +83,11 @@ impl Correction {
         ensures same { S.Store.loan store.new ≡ S.Store.loan store.old }
         ensures each { SetsEach S.Store.sets store.old (as_changes (correction_of self.old).writes) store.new }
     {
-        self.logs.writes.set_all(store);
+        let writes = self.logs.writes();
+        writes.set_all(store);
+        let count = writes.len() as u32;
         self.is_open = false; // The logs stay.
-        self.logs.writes.len() as u32
+        count
     }
 
     // Closes it, if it is open.

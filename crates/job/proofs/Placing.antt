@@ -19,9 +19,8 @@ use Rattle.model.specs.Law.{WellFormed}
 use Rattle.model.specs.declared.Refusal.{Refusal}
 use Rattle.model.specs.declared.Refusal.TheVariants.{TooManyJobs, StepCount, NoSuchRegister}
 use Rattle.model.specs.declared.Step.{Step}
-use Rattle.model.specs.declared.Step.TheVariants.{Read, Write, Load, Add, Subtract, JumpIfLess, Wait, End}
-use Rattle.model.specs.declared.Stage.{Stage}
-use Rattle.model.specs.declared.Stage.TheVariants.{Start, At, Rollback, Validate, Commit, Done}
+use Rattle.model.specs.declared.Step.TheVariants.{Read, Write, Load, Add, Subtract, JumpIfLess}
+use Rattle.model.specs.declared.Stage.TheVariants.{At}
 use Rattle.model.proofs.Basics.{zero_one}
 use Rattle.model.proofs.Admission.{neither, not_bad, no_fault, suffices}
 use Rattle.model.proofs.Follow.{step-at, goes_on}
@@ -36,8 +35,7 @@ Registers (Load r v) = r < 8
 Registers (Add r q) = (r < 8) × (q < 8)
 Registers (Subtract r q) = (r < 8) × (q < 8)
 Registers (JumpIfLess r q t) = (r < 8) × (q < 8)
-Registers Wait = Unit {0}
-Registers End = Unit {0}
+Registers st = Unit {0}
 
 register_below : (n field r : ℕ) → bad_register n field r ≡ None → r < 8
 register_below n field r e = omega (arith, ltb-false 7 r (not_bad (ltb 7 r) (fault NoSuchRegister n field) e))
@@ -51,8 +49,7 @@ registers_below count len n (Subtract r q) e = let x = neither (bad_register n 1
 registers_below count len n (JumpIfLess r q t) e =
     let x = neither (bad_register n 1 r) _ e in
     (register_below n 1 r x.0, register_below n 2 q (neither (bad_register n 2 q) _ x.1).0)
-registers_below count len n Wait e = tt
-registers_below count len n End e = tt
+registers_below count len n st e = tt
 
 none_there : {A : Type 0} (o : Option A) → not (is_some o) ≡ true → o ≡ None
 none_there None e = refl
@@ -131,11 +128,7 @@ after_writing c v n old new r x e h =
 
 -- A step that makes a number is followed by the next one, and its register is there.
 pub makes_on : (b : JobState) (n r number : ℕ) (st : Step) → AtPlace b n st → Makes st b.registers r number → (suc n < length b.program) × (r < 8)
-makes_on b n r number (Read q c) here m = absurd m
-makes_on b n r number (Write c q) here m = absurd m
 makes_on b n r number (Load q v) here m = ((here.goes refl).1, rw (m.0) here.registers)
 makes_on b n r number (Add q p) here m = ((here.goes refl).1, rw (m.0) here.registers.0)
 makes_on b n r number (Subtract q p) here m = ((here.goes refl).1, rw (m.0) here.registers.0)
-makes_on b n r number (JumpIfLess q p t) here m = absurd m
-makes_on b n r number Wait here m = absurd m
-makes_on b n r number End here m = absurd m
+makes_on b n r number st here m = absurd m

@@ -1,11 +1,11 @@
 -- What a job's turn comes to, as the model's turn has it. Assumes nothing.
 use Rattle.std.specs.Prelude.{◌≡◌, ℕ, ◌+◌, ◌-◌, ◌%◌, ◌^◌, List, Some, None, Ok, Option}
-use Rattle.model.specs.Logs.{find, remove, lowest, any, value_in, put_at}
-use Rattle.model.specs.Rules.{JobState, State, counted, with_logs, with_job}
+use Rattle.model.specs.Logs.{find, remove, lowest, any, value_in}
+use Rattle.model.specs.Rules.{JobState, State, with_logs, with_job, right_taken}
 use Rattle.model.specs.Steps.{register}
 use Rattle.model.specs.declared.Entry.{Entry}
 use Rattle.model.specs.declared.Step.{Step}
-use Rattle.model.specs.declared.Step.TheVariants.{Read, Write, Load, Add, Subtract, JumpIfLess, Wait, End}
+use Rattle.model.specs.declared.Step.TheVariants.{Load, Add, Subtract}
 use Rattle.model.specs.Calls.{turn_of}
 use Rattle.model.specs.declared.Rule.{Rule}
 use Rattle.model.specs.declared.Rule.TheVariants.{R1, R2, R3, V3}
@@ -18,17 +18,7 @@ use Rattle.job.specs.declared.moves.Move.TheVariants.{NoRule, Applies, Takes, Co
 
 -- The run where job j, now b, takes the right.
 abbrev pub taking : State → ℕ → JobState → State
-taking s j b =
-    record {
-      number = s.number;
-      cells = s.cells;
-      jobs = put_at s.jobs j b;
-      corrections = s.corrections;
-      right = Some j;
-      order = s.order;
-      takings = counted s.takings;
-      settings = s.settings;
-    }
+taking s j b = right_taken (with_job s j b) j
 
 -- In a run where job j is b, its turn makes it b'; only the run itself makes a job done.
 abbrev pub Comes : State → ℕ → JobState → JobState → Move → Type 0
@@ -52,13 +42,9 @@ read_rule InWrites = R1
 read_rule InReads = R2
 read_rule InStore = R3
 
--- The number that a step makes of the registers, and the register that it goes into.
+-- The number that a step makes of the registers, and the register that it goes into; other steps than these make none.
 abbrev pub Makes : Step → List ℕ → ℕ → ℕ → Type 0
-Makes (Read r cell) registers r' number = ⊥
-Makes (Write cell r) registers r' number = ⊥
 Makes (Load r v) registers r' number = (r' ≡ r) × (number ≡ v)
 Makes (Add r q) registers r' number = (r' ≡ r) × (number ≡ (register registers r + register registers q) % 2 ^ 32)
 Makes (Subtract r q) registers r' number = (r' ≡ r) × (number ≡ (register registers r + (2 ^ 32 - register registers q)) % 2 ^ 32)
-Makes (JumpIfLess r q target) registers r' number = ⊥
-Makes Wait registers r' number = ⊥
-Makes End registers r' number = ⊥
+Makes step registers r' number = ⊥

@@ -96,7 +96,7 @@ impl Job {
     pub fn take_write(&mut self) -> Option<Entry>
         ensures { WriteOf (job_of self.old) (job_of self.new) result }
     {
-        let entry = *self.logs.writes.entries().first()?;
+        let entry = *self.logs.writes().entries().first()?;
         self.logs.forget_write(entry.cell);
         Some(entry)
     }

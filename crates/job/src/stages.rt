@@ -60,11 +60,11 @@ impl Job {
         requires stage { self.old.stage ≡ Start }
         ensures { (C : List ℕ) (right : option.Option ℕ) → Moves C right (job_of self.old) (job_of self.new) result }
     {
-        if let Some(cell) = self.logs.writes.lowest() {
+        if let Some(cell) = self.logs.writes().lowest() {
             self.logs.forget_write(cell);
             return applies_at(Rule::S1, cell);
         }
-        if let Some(cell) = self.logs.reads.lowest() {
+        if let Some(cell) = self.logs.reads().lowest() {
             self.logs.forget_read(cell);
             return applies_at(Rule::S2, cell);
         }
@@ -106,7 +106,7 @@ impl Job {
         requires step { step_of (job_of self.old) ≡ step.Write cell register }
         ensures { (C : List ℕ) (right : option.Option ℕ) → Moves C right (job_of self.old) (job_of self.new) result }
     {
-        let known = self.logs.writes.number(cell).is_some();
+        let known = self.logs.writes().number(cell).is_some();
         let number = self.at(register);
         self.logs.write(cell, number).unwrap();
         self.stage = Stage::At(n + 1);
@@ -146,7 +146,7 @@ impl Job {
         requires step { step_of (job_of self.old) ≡ step.Wait }
         ensures { (right : option.Option ℕ) → Moves (S.Store.cells store.now) right (job_of self.old) (job_of self.new) result }
     {
-        match self.logs.reads.lowest_changed(store) {
+        match self.logs.reads().lowest_changed(store) {
             Some(cell) => {
                 self.stage = Stage::Rollback;
                 applies_at(Rule::Rt, cell)
@@ -173,11 +173,11 @@ impl Job {
             self.stage = Stage::Rollback;
             return applies(Rule::V4);
         }
-        if let Some(cell) = self.logs.reads.lowest_current(store) {
+        if let Some(cell) = self.logs.reads().lowest_current(store) {
             self.logs.forget_read(cell);
             return applies_at(Rule::V1, cell);
         }
-        if let Some(cell) = self.logs.reads.lowest_changed(store) {
+        if let Some(cell) = self.logs.reads().lowest_changed(store) {
             self.logs.forget_read(cell);
             self.marked = false;
             self.stage = Stage::Rollback;

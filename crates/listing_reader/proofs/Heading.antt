@@ -1,11 +1,12 @@
 -- A line whose letter is in order comes to its fields, or to a fault of its length.
 use Rattle.std.proofs.Common.{◌≡◌, ℕ, suc, ◌+◌, ◌-◌, ◌*◌, ◌<◌, ◌≤◌, true, cond, eqb, List, ◌∷◌, length, take, drop, Some, None, Ok, Err, Option, Result, sym, ap, ◌∙◌, arith}
-use Rattle.std.specs.Option.{ok_or}
+use Rattle.std.specs.Option.{ok_or, option_map}
 use Rattle.std.proofs.lemmas.List.{take-take, drop-drop, drop-take}
 use Rattle.std.proofs.lemmas.Bool.{eq-eqb, ne_eqb}
-use Rattle.script.specs.Lines.{kind_of, fields_of, group_of}
+use Rattle.script.specs.Lines.{head, head_of, kind_of, fields_of, group_of}
 use Rattle.script.specs.Faults.{fault_at, field_at, Closed, Progress, in_order, read_fields, read_kind, read_line}
 use Rattle.script.specs.declared.Cause.TheVariants.{Shape, Letter}
+use Rattle.script.specs.declared.Head.{Head}
 use Rattle.script.specs.declared.Kind.{Kind}
 use Rattle.script.specs.declared.ListingFault.{ListingFault}
 use Rattle.script.specs.declared.Section.{Section}
@@ -17,9 +18,16 @@ use Rattle.listing_reader.specs.declared.place.Place.{Place}
 use Rattle.listing_reader.specs.declared.line.Line.{Line}
 use Rattle.listing_reader.specs.declared.line.Line.TheVariants.{Size, Cell, Job, Read, Write, Load, Add, Subtract, JumpIfLess, Wait, End, Turns}
 
-pub kind_told : (o : Option Kind) (k : Kind) → Ok k ≡ ok_or o Letter → o ≡ Some k
-kind_told None k e = zero_one (cc)
-kind_told (Some j) k e = let same : k ≡ j = cc in ap Some (sym same)
+-- What a letter says, where it is the letter of a line.
+told : (o : Option Kind) (h : Head) → Ok h ≡ ok_or (option_map head o) Letter → (o ≡ Some h.kind) × (h.fields ≡ fields_of h.kind)
+told None h e = zero_one (cc)
+told (Some k) h e =
+    let same : h ≡ head k = cc in
+    let kind = ap (λ x. x.kind) same in
+    (ap Some (sym kind), ap (λ x. x.fields) same ∙ ap fields_of (sym kind))
+
+pub head_told : (letter : ℕ) (h : Head) → Ok h ≡ ok_or (head_of letter) Letter → (kind_of letter ≡ Some h.kind) × (h.fields ≡ fields_of h.kind)
+head_told letter h e = told (kind_of letter) h e
 
 module _ (section : Section) (number b : ℕ) (fields : List ℕ) (k : Kind) (kind : kind_of b ≡ Some k) (ordered : in_order section (group_of k) ≡ true) where
   by_length : (p : Progress) → p.section ≡ section → read_line p number (Closed (b ∷ fields)) ≡ cond (eqb (length fields) (11 * fields_of k)) (read_fields p number k fields) (Err (fault_at Shape number 1))

@@ -4,7 +4,7 @@ ghost use Rattle.listing_reader.specs.Heads.{Headed, LineRead};
 use crate::line::Line;
 use crate::lines::line_of;
 use crate::reader::Reader;
-use script::{Cause, Kind, ListingFault, Section};
+use script::{Cause, Head, ListingFault, Section};
 
 // The line that these bytes are, by its letter and its length, if it may come next.
 fn line_from<'a>(bytes: &'a [u8], section: Section, number: u32) -> Result<Line<'a>, ListingFault>
@@ -12,8 +12,8 @@ fn line_from<'a>(bytes: &'a [u8], section: Section, number: u32) -> Result<Line<
 {
     let shape = ListingFault::of_line(Cause::Shape, number);
     let (&letter, fields) = bytes.split_first().ok_or(shape)?;
-    match Kind::try_from(char::from(letter)) {
-        Ok(kind) if section.admits(kind.group()) => line_of(kind, fields).ok_or(shape),
+    match Head::try_from(char::from(letter)) {
+        Ok(head) if section.admits(head.kind.group()) => line_of(head, fields).ok_or(shape),
         _ => Err(ListingFault::of_line(Cause::Letter, number)),
     }
 }

@@ -9,7 +9,7 @@ use crate::place::Place;
 use crate::reader::Reader;
 use crate::room::Room;
 use crate::script_read::Script;
-use script::{Cause, Group, Kind, ListingFault, Section};
+use script::{Cause, Group, Head, ListingFault, Section};
 
 /// How many bytes a listing may have.
 pub const MOST_BYTES: usize = 65_536;
@@ -19,7 +19,7 @@ fn is_step(letter: Option<char>) -> bool
     ensures { result ≡ is_step_letter letter }
 {
     letter.is_some_and(|letter| {
-        Kind::try_from(letter).is_ok_and(|kind| kind.group() == Group::OfStep)
+        Head::try_from(letter).is_ok_and(|head| head.kind.group() == Group::OfStep)
     })
 }
 

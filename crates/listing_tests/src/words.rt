@@ -1,6 +1,6 @@
 use model::{Fault, Refusal};
 use report::{FaultLine, Line};
-use script::{Cause, Group, Kind, ListingFault, Section, Test};
+use script::{Cause, Group, Head, ListingFault, Section, Test};
 use std::fmt::Write;
 use std::test::Fail;
 
@@ -23,12 +23,12 @@ const LETTERS: [(char, usize, Group); 12] = [
 #[test]
 fn letters_and_their_kinds(rt: HostRuntime) {
     for (letter, fields, group) in &LETTERS {
-        let kind = Kind::try_from(*letter);
-        assert_eq!(rt; kind.map(|kind| kind.fields()), Ok(*fields));
-        assert_eq!(rt; kind.map(|kind| kind.group()), Ok(*group));
+        let head = Head::try_from(*letter);
+        assert_eq!(rt; head.map(|head| head.fields), Ok(*fields));
+        assert_eq!(rt; head.map(|head| head.kind.group()), Ok(*group));
     }
-    assert_eq!(rt; Kind::try_from('m'), Err(Cause::Letter));
-    assert_eq!(rt; Kind::try_from(' '), Err(Cause::Letter));
+    assert_eq!(rt; Head::try_from('m'), Err(Cause::Letter));
+    assert_eq!(rt; Head::try_from(' '), Err(Cause::Letter));
 }
 
 #[test]

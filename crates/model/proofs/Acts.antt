@@ -2,7 +2,7 @@
 use Rattle.std.proofs.Common.{◌≡◌, ℕ, zero, suc, ◌+◌, ◌%◌, ◌^◌, ◌≤◌, Bool, true, false, cond, not, ◌&&◌, eqb, List, [], ◌∷◌, ◌++◌, length, set, Some, None, Option, unwrap_or, sym, refl, ap, ◌∙◌, subst, inl, inr, arith, ne_eqb, eqb-true}
 use borrow.Author.Tests.{eqb-false}
 use Rattle.std.specs.List.{slice_get}
-use Rattle.model.specs.Steps.{no_registers, register, computed, following}
+use Rattle.model.specs.Steps.{register, computed, following}
 use Rattle.model.specs.Logs.{Log, find, put, remove, lowest, any, cell_of, current, changed, set_all, value_in, at, put_at, foldl}
 use Rattle.model.specs.Replay.{Note, Player, Play, play_step, play_job, after_read, after_write, after_computing, ends, noted, beginning}
 use Rattle.model.specs.Rules.{JobState, CorrectionState, State, Event, Started, ReadCell, TookRight, SetCell, Joined, counted, place_of, step_cell, if_free, other_marked, in_stage, with_logs, with_mark, with_registers, started, onward, loaded, logged, with_jobs, with_job, unmark, unmark_in, effect, happens}
@@ -10,7 +10,7 @@ use Rattle.model.specs.Calls.{turn, turn_of}
 use Rattle.model.specs.Intake.{stops}
 use Rattle.model.specs.Law.{WellFormed, same, is_taking, is_setting, Member}
 use Rattle.model.specs.declared.Step.{Step}
-use Rattle.model.specs.declared.Step.TheVariants.{Read, Write, Load, Add, Subtract, JumpIfLess, Wait, End}
+use Rattle.model.specs.declared.Step.TheVariants.{Read, Write, Wait, End}
 use Rattle.model.specs.declared.Stage.{Stage}
 use Rattle.model.specs.declared.Stage.TheVariants.{Start, At, Rollback, Validate, Commit, Done}
 use Rattle.model.specs.declared.Party.{Party}
@@ -22,7 +22,7 @@ use Rattle.model.proofs.LogLaws.{Agrees, agrees_put, unchanged-put, unchanged-re
 use Rattle.model.proofs.Follow.{Follows, follows_first, follow, comes_to, step-at, goes_on}
 use Rattle.model.proofs.Cases.{AtStep, Computes, Facts, turn-cases}
 use Rattle.model.proofs.Views.{stir, tick, View, advance, same_self, AllBy, readings-other, requested-other, started-other}
-use Rattle.model.proofs.Invariant.{Scene, scene, player, finished, Fresh, Stands, room, JobInv, Answers, Closed, Replays, Inv, Fair, load, job_load, spent, Kept, unchanged, stands_on, stands_unmarked, replays_on, replays-push}
+use Rattle.model.proofs.Invariant.{Scene, scene, player, finished, Fresh, Stands, room, JobInv, Answers, Closed, Replays, Inv, Fair, load, job_load, spent, Kept, unchanged, stands_on, stands_unmarked, job_on, replays_on, replays-push}
 
 pub wraps : (n m : ℕ) → m ≡ n % 2 ^ 32 → counted m ≡ suc n % 2 ^ 32
 wraps n m e = omega (arith, e)
@@ -97,7 +97,7 @@ module _ (programs : ℕ → List Step) (C₀ : List ℕ) where
           Replays programs C₀ (advance v es) g'.order g'.base →
           ((p : Party) → Member p g'.order → Closed (put_at s.jobs i b') s.corrections p) →
           t ≡ (advance v es).takings % 2 ^ 32 → n ≡ (advance v es).settings % 2 ^ 32 →
-          Kept programs C₀ v s (record { number = s.number; cells = g'.cells; jobs = put_at s.jobs i b'; corrections = s.corrections; right = g'.right; order = g'.order; takings = t; settings = n }) es
+          Kept programs C₀ v s (record s { cells = g'.cells; jobs = put_at s.jobs i b'; right = g'.right; order = g'.order; takings = t; settings = n }) es
       act g' t n stands others holds rests replays closed te ne = record {
         inv = record {
           base = g'.base;
@@ -106,14 +106,8 @@ module _ (programs : ℕ → List Step) (C₀ : List ℕ) where
               (λ k z ne e.
               let f : same (Job k) (Job i) ≡ false = ne_eqb k i (λ q. ne (sym q)) in
               let x = I.jobs k z e in
-              record {
-                well_formed = x.well_formed;
-                program = x.program;
-                reads = x.reads;
-                writes = x.writes;
-                starts = x.starts ∙ ap (λ a. a % 2 ^ 32) (sym (started-other (Job i) es m k f (v.starts k)));
-                stands = subst (λ a. Stands z.stage g' k z a ((advance v es).stirred k)) (sym (readings-other (Job i) es m (Job k) f (v.readings (Job k)))) (others k z ne e x.stands);
-              });
+              job_on programs _ g' v (advance v es) k z z.marked x (started-other (Job i) es m k f (v.starts k))
+              (subst (λ a. Stands z.stage g' k z a ((advance v es).stirred k)) (sym (readings-other (Job i) es m (Job k) f (v.readings (Job k)))) (others k z ne e x.stands)));
           corrections = λ k f e.
               let x = I.corrections k f e in
               record {
@@ -195,7 +189,7 @@ module _ (programs : ℕ → List Step) (C₀ : List ℕ) where
           (
             [],
             subst (λ l. Means l []) (sym w) means_none,
-            subst (λ k. Follows b.program b.reads k) (λ j. record { place = 0; registers = no_registers; notes = []; readings = sym t j }) F,
+            subst (λ k. Follows b.program b.reads k) (λ j. record beginning { readings = sym t j }) F,
           ),
           inr (ap (lowest (changed s.cells)) r),
         ))
@@ -314,12 +308,9 @@ module _ (programs : ℕ → List Step) (C₀ : List ℕ) where
         computes : (st : Step) → Computes st → (stops st ≡ false) × ((C : List ℕ) (p : Player) (rest : Player → Play) → play_step (Some st) C p rest ≡ rest (after_computing st p))
         computes (Read r a) k = absurd k
         computes (Write a r) k = absurd k
-        computes (Load r a) k = (refl, λ C p rest. refl)
-        computes (Add r a) k = (refl, λ C p rest. refl)
-        computes (Subtract r a) k = (refl, λ C p rest. refl)
-        computes (JumpIfLess r a t) k = (refl, λ C p rest. refl)
         computes Wait k = absurd k
         computes End k = absurd k
+        computes st k = (refl, λ C p rest. refl)
 
     do-Rb : (st : Step) (c : ℕ) → b.stage ≡ Rollback → Keeps st c Rb
     do-Rb st c h =
@@ -385,11 +376,11 @@ module _ (programs : ℕ → List Step) (C₀ : List ℕ) where
         let ag : Agrees x.0 s.cells = λ a w k.
         elim (x.2 a w k) [ inl y ↦ (let q : find [] a ≡ Some w = sym (ap (λ l. find l a) e) ∙ y in zero_one (cc)) | inr y ↦ y ] in
         act b' es refl (refl, tt) z.0 z.1 own.starts (omega (arith, busy25, z.1.1)) (λ j. (tt, tt))
-        (record { cells = s.cells; right = Some i; base = I.base; order = s.order }) (counted s.takings) s.settings
+        (record (scene s I.base) { right = Some i }) (counted s.takings) s.settings
         (refl, ap (play_job b.program) be ∙ x.1 s.cells ag)
         (λ j y ne k st'.
         stands_on y.stage (scene s I.base) _ j y (v.readings (Job j)) (v.stirred j) ((advance v es).stirred j)
-        (λ q. refl) (inl (ap (λ t. cond t (v.stirred j) true) (ne_eqb j i (λ q. ne (sym q))))) (λ q. zero_one (cc)) (λ q. q) st')
+        (λ q. refl) (inl (ap (λ t. cond (not t) true (v.stirred j)) (ne_eqb j i (λ q. ne (sym q))))) (λ q. zero_one (cc)) (λ q. q) st')
         (λ k q. holds-own b' refl k (cc))
         (λ q. zero_one (cc))
         (replays-still s v I (Job i) es (refl, tt) (λ p k. not_closed s.jobs s.corrections i b g (not_done busy25) p (I.closed p k)))
@@ -411,13 +402,13 @@ module _ (programs : ℕ → List Step) (C₀ : List ℕ) where
         let l : job_load b ≡ length b.writes = ap (λ z. load z b.writes) h in
         let l' : job_load b' ≡ length (remove b.writes c) = ap (λ z. load z (remove b.writes c)) h in
         act b' es refl (refl, tt) own.reads (sized_remove (room b.stage) c b.writes own.writes) own.starts (omega (arith, l, l', shorter b.writes c f)) (λ j. (tt, tt))
-        (record { cells = D; right = s.right; base = I.base; order = s.order }) s.takings (counted s.settings)
-        (subst (λ z. Stands z (record { cells = D; right = s.right; base = I.base; order = s.order }) i b' (v.readings (Job i)) ((advance v es).stirred i)) (sym h)
+        (record (scene s I.base) { cells = D }) s.takings (counted s.settings)
+        (subst (λ z. Stands z (record (scene s I.base) { cells = D }) i b' (v.readings (Job i)) ((advance v es).stirred i)) (sym h)
         (r, x.1 ∙ ap (finished (v.readings (Job i))) (sym (set_all_first b.writes s.cells c f))))
         (λ j y ne k st'.
         stands_on y.stage (scene s I.base) _ j y (v.readings (Job j)) (v.stirred j) ((advance v es).stirred j)
         (λ m. let q : y.marked ≡ false = clear j y ne k in zero_one (cc))
-        (inl (ap (λ t. cond t (v.stirred j) true) (ne_eqb j i (λ q. ne (sym q)))))
+        (inl (ap (λ t. cond (not t) true (v.stirred j)) (ne_eqb j i (λ q. ne (sym q)))))
         (λ m. let q : i ≡ j = cc in absurd (ne q)) (λ q. q) st')
         (λ k q. let u : i ≡ k = cc in holds-own b' h k u)
         (λ q. zero_one (cc))
@@ -435,7 +426,7 @@ module _ (programs : ℕ → List Step) (C₀ : List ℕ) where
         let o : play_job (programs i) I.base ≡ finished (v.readings (Job i)) s.cells =
         ap (λ p. play_job p I.base) (sym own.program) ∙ (x.1 ∙ ap (λ l. finished (v.readings (Job i)) (set_all l s.cells)) f) in
         act b' es refl (refl, tt) z.0 z.1 own.starts (omega arith) (λ j. (tt, tt))
-        (record { cells = s.cells; right = None; base = s.cells; order = s.order ++ Job i ∷ [] }) s.takings s.settings
+        (record (scene s I.base) { right = None; base = s.cells; order = s.order ++ Job i ∷ [] }) s.takings s.settings
         (member-last (Job i) s.order)
         (λ j y ne k st'.
         stands_on y.stage (scene s I.base) _ j y (v.readings (Job j)) (v.stirred j) ((advance v es).stirred j)
@@ -458,17 +449,10 @@ module _ (programs : ℕ → List Step) (C₀ : List ℕ) where
       base = I.base;
       jobs = each-put (JobInv programs (scene s I.base) v) s.jobs c x (unmark x) e
           (let y = I.jobs c x e in
-          record {
-            well_formed = y.well_formed;
-            program = y.program;
-            reads = y.reads;
-            writes = y.writes;
-            starts = y.starts;
-            stands = stands_unmarked x.stage (scene s I.base) c x (v.readings (Job c)) (v.stirred c) (inr nr) y.stands;
-          })
+          job_on programs _ (scene s I.base) v v c x false y refl (stands_unmarked x.stage (scene s I.base) c x (v.readings (Job c)) (v.stirred c) (inr nr) y.stands))
           (λ k z ne f. I.jobs k z f);
       corrections = I.corrections;
-      holder = λ h r. let y = I.holder h r in let z = still h y.0 y.1 in (z.0, z.1, z.2 ∙ y.2);
+      holder = λ h r. let y = I.holder h r in still h y.0 Commit y.1 y.2;
       rest = I.rest;
       replays = I.replays;
       closed = λ p m. closed-still p (I.closed p m);
@@ -479,18 +463,18 @@ module _ (programs : ℕ → List Step) (C₀ : List ℕ) where
     spends = omega (arith, sum-put job_load s.jobs c x (unmark x) e);
   }
     where
-      still : (j : ℕ) (y : JobState) → at s.jobs j ≡ Some y → (z : JobState) × (at (put_at s.jobs c (unmark x)) j ≡ Some z) × (z.stage ≡ y.stage)
-      still j y f =
+      still : (j : ℕ) (y : JobState) (st : Stage) → at s.jobs j ≡ Some y → y.stage ≡ st → (z : JobState) × (at (put_at s.jobs c (unmark x)) j ≡ Some z) × (z.stage ≡ st)
+      still j y st f k =
           by_bool (eqb c j)
           (λ t.
           let q : c ≡ j = eqb-true c j t in
           let u : Some x ≡ Some y = sym e ∙ (ap (at s.jobs) q ∙ f) in
           let w : x ≡ y = cc in
-          (unmark x, subst (λ n. at (put_at s.jobs c (unmark x)) n ≡ Some (unmark x)) q (at-put-same s.jobs c x (unmark x) e), ap (λ z. z.stage) w))
-          (λ t. (y, at-put-other s.jobs c j (unmark x) (eqb-false c j t) ∙ f, refl))
+          (unmark x, subst (λ n. at (put_at s.jobs c (unmark x)) n ≡ Some (unmark x)) q (at-put-same s.jobs c x (unmark x) e), ap (λ z. z.stage) w ∙ k))
+          (λ t. (y, at-put-other s.jobs c j (unmark x) (eqb-false c j t) ∙ f, k))
 
       closed-still : (p : Party) → Closed s.jobs s.corrections p → Closed (put_at s.jobs c (unmark x)) s.corrections p
-      closed-still (Job j) y = let z = still j y.0 y.1 in (z.0, z.1, z.2 ∙ y.2)
+      closed-still (Job j) y = still j y.0 Done y.1 y.2
       closed-still (Correction k) y = y
 
   module _ (s : State) (v : View) (I : Inv programs C₀ s v) (i : ℕ) (b : JobState) (g : at s.jobs i ≡ Some b) where

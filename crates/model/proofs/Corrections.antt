@@ -1,7 +1,6 @@
 -- The correction calls keep what holds of a run.
 use Rattle.std.proofs.Common.{◌≡◌, ℕ, suc, ◌+◌, ◌%◌, ◌^◌, ◌<◌, ◌≤◌, Bool, true, false, cond, eqb, ltb, ◌⊎◌, List, [], ◌∷◌, ◌++◌, map, length, Some, None, Option, Result, unwrap_or, sym, refl, ap, ◌∙◌, subst, inl, inr, arith, length-append, ltb-true, eq-eqb, ne_eqb}
 use borrow.Author.Tests.{eqb-false}
-use Rattle.model.specs.Steps.{no_registers}
 use Rattle.model.specs.Logs.{Log, find, put, lowest, cell_of, changed, set_all, at, put_at, foldl}
 use Rattle.model.specs.Replay.{Player, Request, Reads, Writes, request, requests, beginning, ends, play_correction}
 use Rattle.model.specs.Rules.{JobState, CorrectionState, State, Event, Started, ReadCell, WroteCell, TookRight, unmark}
@@ -14,7 +13,7 @@ use Rattle.model.specs.declared.Party.TheVariants.{Job, Correction}
 use Rattle.model.proofs.Basics.{by_bool, by_cond, zero_one, at-put-same, at-put-other, each-put, at-append-old, at-append-cases, at_length, at_map, at-map-to, member-left, member-push, sum, sum-put, sum-push, length-put}
 use Rattle.model.proofs.LogLaws.{Agrees, agrees_put, unchanged_agrees, Sized, sized_none, sized_put, sized_put_old, note, means_none, means_put}
 use Rattle.model.proofs.Views.{stir, tick, ticked, View, advance, same_self, AllBy, readings-other, requested-other, started-other, filing, filing_by, filing_readings, filing_requested, filing_stirs, filing_takes, filing_sets}
-use Rattle.model.proofs.Invariant.{Scene, scene, finished, Stands, JobInv, Answers, CorrectionInv, Closed, Inv, Fair, job_load, correction_load, corrections_load, spent, Kept, unchanged, stands_on, stands_unmarked, replays_on, replays-push}
+use Rattle.model.proofs.Invariant.{Scene, scene, finished, Stands, JobInv, Answers, CorrectionInv, Closed, Inv, Fair, job_load, correction_load, corrections_load, spent, Kept, unchanged, stands_on, stands_unmarked, job_on, replays_on, replays-push}
 use Rattle.model.proofs.Acts.{wraps, replays-still}
 
 -- The correction of a slip that is taken is open.
@@ -80,15 +79,9 @@ module _ (programs : ℕ → List Step) (C₀ : List ℕ) where
       base = I.base;
       jobs = λ j b e.
           let x = I.jobs j b e in
-          record {
-            well_formed = x.well_formed;
-            program = x.program;
-            reads = x.reads;
-            writes = x.writes;
-            starts = x.starts ∙ ap (λ a. a % 2 ^ 32) (sym (started-other (Correction k) es m j refl (v.starts j)));
-            stands = subst (λ t. Stands b.stage (scene s I.base) j b t ((advance v es).stirred j)) (sym (readings-other (Correction k) es m (Job j) refl (v.readings (Job j))))
-                (subst (λ t. Stands b.stage (scene s I.base) j b (v.readings (Job j)) t) (sym (stirs j (v.stirred j))) x.stands);
-          };
+          job_on programs _ _ v (advance v es) j b b.marked x (started-other (Correction k) es m j refl (v.starts j))
+          (subst (λ t. Stands b.stage (scene s I.base) j b t ((advance v es).stirred j)) (sym (readings-other (Correction k) es m (Job j) refl (v.readings (Job j))))
+          (subst (λ t. Stands b.stage (scene s I.base) j b (v.readings (Job j)) t) (sym (stirs j (v.stirred j))) x.stands));
       corrections = each-put (CorrectionInv (advance v es)) s.corrections k f f' g own
           (λ n z ne e.
           let d : same (Correction n) (Correction k) ≡ false = ne_eqb n k (λ q. ne (sym q)) in
@@ -113,7 +106,7 @@ module _ (programs : ℕ → List Step) (C₀ : List ℕ) where
       record {
         inv = record {
           base = I.base;
-          jobs = λ j b e. let x = I.jobs j b e in record { well_formed = x.well_formed; program = x.program; reads = x.reads; writes = x.writes; starts = x.starts; stands = x.stands };
+          jobs = λ j b e. let x = I.jobs j b e in job_on programs _ _ v (advance v es) j b b.marked x refl x.stands;
           corrections = λ n f e. own n f (at-append-cases s.corrections (correction true [] []) n f e);
           holder = I.holder;
           rest = I.rest;
@@ -153,7 +146,7 @@ module _ (programs : ℕ → List Step) (C₀ : List ℕ) where
             answers = λ o. (
               [],
               means_none,
-              λ C ag. ap (λ z. requests C beginning (cond z [] (v.scripts n))) d ∙ (λ i. record { place = 0; registers = no_registers; notes = []; readings = cond (sym d i) [] (v.readings (Correction n)) }),
+              λ C ag. ap (λ z. requests C beginning (cond z [] (v.scripts n))) d ∙ (λ i. record beginning { readings = cond (sym d i) [] (v.readings (Correction n)) }),
             );
           }
 
@@ -189,8 +182,8 @@ module _ (programs : ℕ → List Step) (C₀ : List ℕ) where
                 ap (requests C beginning) q
                 ∙ (requests-append C beginning (v.scripts k) (Reads c)
                 ∙ (ap (λ p. request C p (Reads c)) (a.2 C (step C ag).0)
-                ∙ ((λ i. record { place = 0; registers = no_registers; notes = a.0; readings = readings ++ (a.1.finds C c ∙ (step C ag).1) i ∷ [] })
-                ∙ (λ i. record { place = 0; registers = no_registers; notes = a.0; readings = sym t i })))),
+                ∙ ((λ i. record beginning { notes = a.0; readings = readings ++ (a.1.finds C c ∙ (step C ag).1) i ∷ [] })
+                ∙ (λ i. record beginning { notes = a.0; readings = sym t i })))),
           );
         })
 
@@ -281,7 +274,7 @@ module _ (programs : ℕ → List Step) (C₀ : List ℕ) where
             ∙ ap (finished (v.readings (Correction k))) (a.1.sets s.cells))
 
         g' : Scene
-        g' = record { cells = set_all f.writes s.cells; right = None; base = set_all f.writes s.cells; order = s.order ++ Correction k ∷ [] }
+        g' = scene (filed s k f).next (set_all f.writes s.cells)
 
         stands_after : (j : ℕ) (x : JobState) → at s.jobs j ≡ Some x → Stands x.stage g' j (unmark x) (v.readings (Job j)) true
         stands_after j x e =
@@ -293,16 +286,10 @@ module _ (programs : ℕ → List Step) (C₀ : List ℕ) where
 
         job-after : (j : ℕ) (z : JobState) → (x : JobState) × (at s.jobs j ≡ Some x) × (unmark x ≡ z) → JobInv programs g' w j z
         job-after j z p =
-            let x = I.jobs j p.0 p.1 in
-            subst (JobInv programs g' w j) p.2 (record {
-              well_formed = x.well_formed;
-              program = x.program;
-              reads = x.reads;
-              writes = x.writes;
-              starts = x.starts ∙ ap (λ a. a % 2 ^ 32) (sym (started-other (Correction k) (filing k f.writes) (filing_by k f.writes) j refl (v.starts j)));
-              stands = subst (λ t. Stands p.0.stage g' j (unmark p.0) t (w.stirred j)) (sym (filing_readings k (Job j) (v.readings (Job j)) f.writes))
-                  (subst (λ t. Stands p.0.stage g' j (unmark p.0) (v.readings (Job j)) t) (sym (filing_stirs k j f.writes)) (stands_after j p.0 p.1));
-            })
+            subst (JobInv programs g' w j) p.2
+            (job_on programs _ g' v w j p.0 false (I.jobs j p.0 p.1) (started-other (Correction k) (filing k f.writes) (filing_by k f.writes) j refl (v.starts j))
+            (subst (λ t. Stands p.0.stage g' j (unmark p.0) t (w.stirred j)) (sym (filing_readings k (Job j) (v.readings (Job j)) f.writes))
+            (subst (λ t. Stands p.0.stage g' j (unmark p.0) (v.readings (Job j)) t) (sym (filing_stirs k j f.writes)) (stands_after j p.0 p.1))))
 
         closed-old : (p : Party) → Closed s.jobs s.corrections p → Closed (map unmark s.jobs) (put_at s.corrections k f') p
         closed-old (Job j) x = (unmark x.0, at-map-to unmark s.jobs j x.0 x.1, x.2)

@@ -1,7 +1,7 @@
 -- What a correction read and requested is what its accepted readings and writings say.
-use Rattle.std.proofs.Common.{◌≡◌, ℕ, zero, suc, ◌+◌, ◌<◌, ◌≤◌, Bool, true, false, cond, eqb, List, [], ◌∷◌, ◌++◌, length, Some, Ok, sym, refl, ap, ◌∙◌, subst, arith, length-append, eqb-true, ne_eqb}
+use Rattle.std.proofs.Common.{◌≡◌, ℕ, zero, suc, ◌<◌, ◌≤◌, Bool, true, false, cond, eqb, List, [], ◌∷◌, ◌++◌, length, Some, Ok, sym, refl, ap, ◌∙◌, subst, arith, length-append, eqb-true, ne_eqb}
 use Rattle.std.proofs.lemmas.List.{append-nil, append_assoc}
-use Rattle.model.specs.Calls.{Call, Turn, Settle, Open, Read, Write, File, Withdraw, Answer, OfTurn, OfOpening, OfReading, OfAcceptance, Outcome, SlipNumbers, answering, correction, read_gives, write_gives, filed, withdraw_by, settle, held, call, events_of, answers_of}
+use Rattle.model.specs.Calls.{Call, Turn, Settle, Open, Read, Write, File, Withdraw, Answer, OfTurn, OfOpening, OfReading, OfAcceptance, Outcome, SlipNumbers, answering, correction, read_gives, write_gives, filed, withdraw_by, settle, held, call, events_of, answers_of, opened}
 use Rattle.model.specs.Law.{is_idle, over, answered, accepted, readings_after, requests_after, ReadAsAnswered}
 use Rattle.model.specs.Logs.{put, at, put_at, foldl}
 use Rattle.model.specs.Replay.{Request, Reads, Writes}
@@ -12,8 +12,8 @@ use Rattle.model.specs.declared.Rule.TheVariants.{S1}
 use Rattle.model.proofs.Basics.{by_bool, zero_one, foldl-append, length-put}
 use Rattle.model.proofs.Cases.{ruled}
 use Rattle.model.proofs.Corrections.{held_open}
-use Rattle.model.proofs.Lifting.{opened, turn-any, settle-any, call-any}
-use Rattle.model.proofs.Uncorrected.{rule-corrects}
+use Rattle.model.proofs.Lifting.{settle-by-rule, call-any}
+use Rattle.model.proofs.Uncorrected.{rule-corrects, settling-corrects}
 use Rattle.model.proofs.Views.{filing_readings, filing_requested}
 
 -- What is there has a number of at most so many.
@@ -87,20 +87,16 @@ module _ (k : ℕ) (A : Type 0) (h : Hearing k A) where
         (same ∙ (sym (append-nil acc) ∙ ap (λ (xs : List A). acc ++ xs) (sym none)), λ g. same ∙ u (omega arith)))
 
   -- In a settling nothing is heard.
-  abbrev Silent : State → State → List Event → Type 0
-  Silent s t es = ((acc : List A) → heard acc es ≡ acc) × (t.corrections ≡ s.corrections)
-
-  settle-silent : (s : State) → Silent s (settle s).next (settle s).events
-  settle-silent s =
-      settle-any Silent (λ s. ((λ acc. refl), refl)) (λ s t u xs ys p q. ((λ acc. foldl-append h.after acc xs ys ∙ (ap (λ a. heard a ys) (p.0 acc) ∙ q.0 acc)), q.1 ∙ p.1))
-      (λ s j. turn-any s j (λ o. Silent s o.next o.events) ((λ acc. refl), refl) ((λ acc. refl), refl) (λ b e st c r f. (h.rules s j b c r, rule-corrects s j b st c r)))
-      (length s.jobs + 25) s
+  settle-silent : (s : State) (acc : List A) → heard acc (settle s).events ≡ acc
+  settle-silent =
+      settle-by-rule (λ s t es. (acc : List A) → heard acc es ≡ acc) (λ s acc. refl)
+      (λ s t u xs ys p q acc. foldl-append h.after acc xs ys ∙ (ap (λ a. heard a ys) (p acc) ∙ q acc)) (λ s j b st c r. h.rules s j b c r)
 
   call-hears : (s : State) (c : Call) → Hears s c (call s c)
   call-hears s =
       call-any s (Hears s) (λ c a e. silent s c (record { next = s; answer = a; events = [] }) (λ acc. refl) (h.idle c a e) refl)
       (λ j b e st c r f. silent s (Turn j) (answering OfTurn (ruled s j b st c r)) (h.rules s j b c r) (h.turning j _) (ap (λ (fs : List CorrectionState). length fs) (rule-corrects s j b st c r)))
-      (let x = settle-silent s in silent s Settle (call s Settle) x.0 (h.settling _) (ap (λ (fs : List CorrectionState). length fs) x.1))
+      (silent s Settle (call s Settle) (settle-silent s) (h.settling _) (ap (λ (fs : List CorrectionState). length fs) (settling-corrects s)))
       (opens s)
       (λ slip cell f number log g. adds s (Read slip cell) (answering OfReading (read_gives s slip.correction f cell number log)) slip f g (h.reading slip cell number) (h.read-other slip cell number) (same_length s slip (correction true log f.writes)))
       (λ slip cell number f g. adds s (Write slip cell number) (answering OfAcceptance (write_gives s slip.correction f cell number)) slip f g (h.writing slip cell number) (h.write-other slip cell number) (same_length s slip (correction true f.reads (put f.writes cell number))))

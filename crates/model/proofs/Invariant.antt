@@ -1,9 +1,8 @@
 -- What holds of a run between its calls.
 use Rattle.std.proofs.Common.{◌≡◌, ℕ, ◌+◌, ◌-◌, ◌*◌, ◌%◌, ◌^◌, ◌≤◌, Bool, true, false, cond, ◌⊎◌, List, [], ◌∷◌, ◌++◌, map, length, Some, None, Option, sym, refl, ap, ◌∙◌, subst, inl, inr, arith}
-use Rattle.model.specs.Steps.{no_registers}
 use Rattle.model.specs.Logs.{Log, find, lowest, changed, cell_of, set_all, at}
 use Rattle.model.specs.Replay.{Note, Player, Play, Parts, Request, requests, beginning, play_job, play_party, plays, replayed}
-use Rattle.model.specs.Rules.{JobState, CorrectionState, State, Event, Started, ReadCell, WroteCell, TookRight, SetCell, Joined, unmark}
+use Rattle.model.specs.Rules.{JobState, CorrectionState, State, Event, Started, with_mark, unmark}
 use Rattle.model.specs.Law.{WellFormed, same, Member, result, count_of, is_taking, is_setting}
 use Rattle.model.specs.declared.Step.{Step}
 use Rattle.model.specs.declared.Stage.{Stage}
@@ -57,12 +56,8 @@ Stands Done g j b readings stirred = Member (Job j) g.order
 
 -- At a step a log has at most as many entries as steps stand before it.
 abbrev pub room : Stage → ℕ
-room Start = 24
 room (At n) = n
-room Rollback = 24
-room Validate = 24
-room Commit = 24
-room Done = 24
+room stage = 24
 
 pub record JobInv (programs : ℕ → List Step) (g : Scene) (v : View) (j : ℕ) (b : JobState) : Type 0 where
   pub well_formed : WellFormed b.program
@@ -76,7 +71,7 @@ pub record JobInv (programs : ℕ → List Step) (g : Scene) (v : View) (j : ℕ
 abbrev pub Answers : List Request → List ℕ → CorrectionState → Type 0
 Answers script readings f =
     (notes : List Note) × Means f.writes notes
-    × ((C : List ℕ) → Agrees f.reads C → requests C beginning script ≡ record { place = 0; registers = no_registers; notes = notes; readings = readings })
+    × ((C : List ℕ) → Agrees f.reads C → requests C beginning script ≡ record beginning { notes = notes; readings = readings })
 
 pub record CorrectionInv (v : View) (k : ℕ) (f : CorrectionState) : Type 0 where
   pub reads : Sized 24 f.reads
@@ -112,11 +107,7 @@ pub record Inv (programs : ℕ → List Step) (C₀ : List ℕ) (s : State) (v :
 -- A start comes only where another party stirred.
 abbrev pub FairAt : ℕ → Bool → Event → Type 0
 FairAt j acc (Started p) = same (Job j) p ≡ true → acc ≡ true
-FairAt j acc (ReadCell p c v) = Unit {0}
-FairAt j acc (WroteCell p c v) = Unit {0}
-FairAt j acc (TookRight p) = Unit {0}
-FairAt j acc (SetCell p c v) = Unit {0}
-FairAt j acc (Joined p) = Unit {0}
+FairAt j acc event = Unit {0}
 
 abbrev pub Fair : ℕ → Bool → List Event → Type 0
 Fair j acc [] = Unit {0}
@@ -124,12 +115,9 @@ Fair j acc (e ∷ es) = FairAt j acc e × Fair j (stir j acc e) es
 
 -- How many takings and settings are still to come at most: 25 of each job that has not taken the right and of each correction not closed.
 abbrev pub load : Stage → Log → ℕ
-load Start log = 25
-load (At n) log = 25
-load Rollback log = 25
-load Validate log = 25
 load Commit log = length log
 load Done log = 0
+load stage log = 25
 
 abbrev pub job_load : JobState → ℕ
 job_load b = load b.stage b.writes
@@ -162,7 +150,6 @@ pub stands_on : (st : Stage) (g g' : Scene) (j : ℕ) (b : JobState) (readings :
     (g.right ≡ Some j → (g'.right ≡ Some j) × (g'.base ≡ g.base) × (g'.cells ≡ g.cells)) →
     (Member (Job j) g.order → Member (Job j) g'.order) →
     Stands st g j b readings stirred → Stands st g' j b readings stirred'
-stands_on Start g g' j b readings a a' hc hs hr ho x = elim hs [ inl t ↦ t | inr t ↦ t.0 ∙ x ]
 stands_on (At n) g g' j b readings a a' hc hs hr ho x = (
   x.0,
   elim hs [
@@ -170,7 +157,6 @@ stands_on (At n) g g' j b readings a a' hc hs hr ho x = (
     | inr t ↦ elim x.1 [ inl y ↦ inl (t.0 ∙ y) | inr y ↦ inr (subst (λ C. Fresh C b) (sym t.1) y) ]
   ],
 )
-stands_on Rollback g g' j b readings a a' hc hs hr ho x = elim hs [ inl t ↦ t | inr t ↦ t.0 ∙ x ]
 stands_on Validate g g' j b readings a a' hc hs hr ho x = (
   (λ m. subst (λ C. Validating C b readings) (sym (hc m)) (x.0 m)),
   elim hs [
@@ -182,19 +168,28 @@ stands_on Commit g g' j b readings a a' hc hs hr ho x =
     let h = hr x.0 in
     (h.0, ap (play_job b.program) h.1 ∙ (x.1 ∙ ap (λ C. finished readings (set_all b.writes C)) (sym h.2)))
 stands_on Done g g' j b readings a a' hc hs hr ho x = ho x
+stands_on st g g' j b readings a a' hc hs hr ho x = elim hs [ inl t ↦ t | inr t ↦ t.0 ∙ x ]
 
 -- A job whose mark is removed.
 pub stands_unmarked : (st : Stage) (g : Scene) (j : ℕ) (b : JobState) (readings : List ℕ) (stirred : Bool) →
     ((stirred ≡ true) ⊎ (g.right ≡ None → ⊥)) → Stands st g j b readings stirred → Stands st g j (unmark b) readings stirred
-stands_unmarked Start g j b readings a h x = x
-stands_unmarked (At n) g j b readings a h x = x
-stands_unmarked Rollback g j b readings a h x = x
 stands_unmarked Validate g j b readings a h x = (
   (λ m. zero_one (cc)),
   inl (elim h [ inl t ↦ t | inr n ↦ elim x.1 [ inl y ↦ y | inr y ↦ absurd (n y.1) ] ]),
 )
-stands_unmarked Commit g j b readings a h x = x
-stands_unmarked Done g j b readings a h x = x
+stands_unmarked st g j b readings a h x = x
+
+-- A job, perhaps with another mark, where it is told how it stands then.
+pub job_on : (programs : ℕ → List Step) (g g' : Scene) (v w : View) (j : ℕ) (b : JobState) (marked : Bool) → JobInv programs g v j b → w.starts j ≡ v.starts j →
+    Stands b.stage g' j (with_mark b marked) (w.readings (Job j)) (w.stirred j) → JobInv programs g' w j (with_mark b marked)
+job_on programs g g' v w j b marked x starts stands = record {
+  well_formed = x.well_formed;
+  program = x.program;
+  reads = x.reads;
+  writes = x.writes;
+  starts = x.starts ∙ ap (λ a. a % 2 ^ 32) (sym starts);
+  stands = stands;
+}
 
 -- The replay of an order does not change where nothing new is said of its parties.
 pub replays_on : (programs : ℕ → List Step) (C₀ : List ℕ) (v w : View) (order : List Party) (base : List ℕ) →

@@ -18,7 +18,7 @@ use Rattle.model.proofs.Cases.{Facts}
 use Rattle.model.proofs.Corrections.{held_open}
 use Rattle.model.proofs.Invariant.{Inv}
 use Rattle.model.proofs.Views.{View, advance, advance-append}
-use Rattle.model.proofs.Lifting.{turn-any, settle-any, call-any, calls-any}
+use Rattle.model.proofs.Lifting.{turn-any, settle-any, settle-by-rule, call-any, calls-any}
 
 joined-append : (xs ys : List Event) → joined (xs ++ ys) ≡ joined xs ++ joined ys
 joined-append [] ys = refl
@@ -40,9 +40,6 @@ rule-grows : (s : State) (j : ℕ) (b : JobState) (st : Step) (c : ℕ) (r : Rul
 rule-grows s j b st c C3 = refl
 rule-grows s j b st c r = same_order s
 
-turn-grows : (s : State) (j : ℕ) → Grows s (turn s j).next (turn s j).events
-turn-grows s j = turn-any s j (λ o. Grows s o.next o.events) (same_order s) (same_order s) (λ b e st c r f. rule-grows s j b st c r)
-
 joined-filing : (p : Party) (log : Log) → joined (settings_of p log ++ Joined p ∷ []) ≡ p ∷ []
 joined-filing p [] = refl
 joined-filing p (e ∷ log) = joined-filing p log
@@ -50,7 +47,7 @@ joined-filing p (e ∷ log) = joined-filing p log
 call-grows : (s : State) (c : Call) → Grows s (call s c).next (call s c).events
 call-grows s =
     call-any s (λ c o. Grows s o.next o.events) (λ c a e. same_order s) (λ j b e st c r f. rule-grows s j b st c r)
-    (settle-any Grows same_order grows_both turn-grows (length s.jobs + 25) s)
+    (settle-by-rule Grows same_order grows_both rule-grows s)
     (same_order s) (λ slip cell f number log h. same_order s) (λ slip cell number f h. same_order s)
     (λ slip f h. ap (λ (ps : List Party). s.order ++ ps) (sym (joined-filing (Correction slip.correction) f.writes)))
     (λ slip f h. same_order s)

@@ -1,10 +1,9 @@
 -- From every rule to every turn, from turns to settlings, and from calls to lists of calls.
-use Rattle.std.proofs.Common.{◌≡◌, ℕ, zero, suc, true, List, [], ◌∷◌, ◌++◌, length, Some, None, Ok, Option, Result, refl}
-use Rattle.model.specs.Calls.{Call, Turn, Settle, Open, Read, Write, File, Withdraw, Answer, OfTurn, OfOpening, OfReading, OfAcceptance, Outcome, Turned, SlipNumbers, refuse, turn, turn_of, settle_next, settle_in, answering, with_corrections, correction, held, read_gives, read_logged, read_by, write_gives, write_logged, write_by, filed, file_checked, file_by, withdraw_by, call, after, events_of}
+use Rattle.std.proofs.Common.{◌≡◌, ℕ, zero, suc, ◌+◌, true, List, [], ◌∷◌, ◌++◌, length, Some, None, Ok, Option, Result, refl}
+use Rattle.model.specs.Calls.{Call, Turn, Settle, Open, Read, Write, File, Withdraw, Answer, OfTurn, OfOpening, OfReading, OfAcceptance, Outcome, Turned, SlipNumbers, refuse, turn, turn_of, settle_next, settle_in, settle, answering, held, opened, read_gives, read_logged, read_by, write_gives, write_logged, write_by, filed, file_checked, file_by, withdraw_by, call, after, events_of}
 use Rattle.model.specs.Law.{is_idle}
 use Rattle.model.specs.Logs.{Log, find, lowest, changed, at}
-use Rattle.model.specs.Rules.{JobState, CorrectionState, State, Event, Started}
-use Rattle.model.specs.declared.Party.TheVariants.{Correction}
+use Rattle.model.specs.Rules.{JobState, CorrectionState, State, Event, effect, happens}
 use Rattle.model.specs.declared.Refusal.{Refusal}
 use Rattle.model.specs.declared.Refusal.TheVariants.{NoSuchJob}
 use Rattle.model.specs.declared.Rule.{Rule}
@@ -20,14 +19,6 @@ module _ (s : State) (j : ℕ) (Q : Outcome Turned → Type 0) (refused : Q (ref
       of_job : (o : Option JobState) → at s.jobs j ≡ o → Q (turn_of s j o)
       of_job None e = refused
       of_job (Some b) e = turn-cases s j b Q (λ r. idle) (rule b e)
-
-abbrev pub opened : State → Outcome (Result SlipNumbers Refusal)
-opened s =
-    record {
-      next = with_corrections s (s.corrections ++ correction true [] [] ∷ []);
-      answer = Ok (record { run = s.number; correction = suc (length s.corrections) });
-      events = Started (Correction (suc (length s.corrections))) ∷ [];
-    }
 
 -- What holds of every call that says it did nothing, and of each that is carried out, holds of every call.
 module _ (s : State) (Q : Call → Outcome Answer → Type 0)
@@ -94,6 +85,14 @@ module _ (K : State → State → List Event → Type 0) (none : (s : State) →
       by_right : (o : Option ℕ) → ((t : State) → K t (settle_in n t).next (settle_in n t).events) → K s (settle_next o s (λ t. settle_in n t)).next (settle_next o s (λ t. settle_in n t)).events
       by_right None rest = none s
       by_right (Some h) rest = chain s (turn s h).next _ (turn s h).events _ (step s h) (rest (turn s h).next)
+
+  -- What every rule does, every turn does, and a settling.
+  module _ (rule : (s : State) (j : ℕ) (b : JobState) (st : Step) (c : ℕ) (r : Rule) → K s (effect s j b st c r) (happens s j b c r)) where
+    turn-by-rule : (s : State) (j : ℕ) → K s (turn s j).next (turn s j).events
+    turn-by-rule s j = turn-any s j (λ o. K s o.next o.events) (none s) (none s) (λ b e st c r f. rule s j b st c r)
+
+    pub settle-by-rule : (s : State) → K s (settle s).next (settle s).events
+    settle-by-rule s = settle-any turn-by-rule (length s.jobs + 25) s
 
   pub calls-any : ((s : State) (c : Call) → K s (call s c).next (call s c).events) → (calls : List Call) (s : State) → K s (after s calls) (events_of s calls)
   calls-any step [] s = none s

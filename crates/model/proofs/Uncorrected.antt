@@ -1,26 +1,22 @@
 -- Runs without corrections stay so until one is opened.
-use Rattle.std.proofs.Common.{◌≡◌, ℕ, zero, suc, ◌+◌, Bool, true, false, cond, eqb, List, [], ◌∷◌, length, Some, None, Option, refl, ap, ◌∙◌}
+use Rattle.std.proofs.Common.{◌≡◌, ℕ, zero, suc, Bool, true, false, cond, eqb, List, [], ◌∷◌, Some, None, Option, refl, ap, ◌∙◌}
 use Rattle.model.specs.Calls.{Call, Open, SlipNumbers, settle, if_open, held, call}
 use Rattle.model.specs.Law.{opens_one, NoneUntilOpened}
 use Rattle.model.specs.Logs.{at}
-use Rattle.model.specs.Rules.{JobState, CorrectionState, State, Event, effect}
+use Rattle.model.specs.Rules.{JobState, CorrectionState, State, effect}
 use Rattle.model.specs.declared.Rule.{Rule}
 use Rattle.model.specs.declared.Rule.TheVariants.{S1}
 use Rattle.model.specs.declared.Step.{Step}
 use Rattle.model.proofs.Basics.{zero_one}
-use Rattle.model.proofs.Lifting.{turn-any, settle-any, call-any}
+use Rattle.model.proofs.Lifting.{settle-by-rule, call-any}
 
 -- No rule changes a correction, so neither does a turn, nor a settling.
 pub rule-corrects : (s : State) (j : ℕ) (b : JobState) (st : Step) (c : ℕ) (r : Rule) → (effect s j b st c r).corrections ≡ s.corrections
 rule-corrects s j b st c S1 = refl
 rule-corrects s j b st c r = refl
 
-abbrev Same : State → State → List Event → Type 0
-Same s t es = t.corrections ≡ s.corrections
-
-settling-corrects : (s : State) → (settle s).next.corrections ≡ s.corrections
-settling-corrects s =
-    settle-any Same (λ s. refl) (λ s t u xs ys p q. q ∙ p) (λ s j. turn-any s j (λ o. Same s o.next o.events) refl refl (λ b e st c r f. rule-corrects s j b st c r)) (length s.jobs + 25) s
+pub settling-corrects : (s : State) → (settle s).next.corrections ≡ s.corrections
+settling-corrects = settle-by-rule (λ s t es. t.corrections ≡ s.corrections) (λ s. refl) (λ s t u xs ys p q. q ∙ p) rule-corrects
 
 -- No slip stands for an open correction where there is none.
 none-held : (s : State) (slip : SlipNumbers) → s.corrections ≡ [] → held s slip ≡ None

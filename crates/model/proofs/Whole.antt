@@ -2,14 +2,14 @@
 use Rattle.std.proofs.Common.{◌≡◌, ℕ, zero, suc, ◌+◌, ◌*◌, ◌%◌, ◌^◌, ◌<◌, ◌≤◌, Bool, true, false, cond, not, ◌⊎◌, List, [], ◌∷◌, ◌++◌, map, length, Some, None, Ok, Option, sym, refl, ap, ◌∙◌, subst, inl, inr, arith}
 use Rattle.model.specs.Logs.{at, foldl}
 use Rattle.model.specs.Replay.{waits, play_job}
-use Rattle.model.specs.Rules.{JobState, State, Event, Started, ReadCell, WroteCell, TookRight, SetCell, Joined, place_of, step_of, rules_of, first_fit}
+use Rattle.model.specs.Rules.{JobState, State, Event, Started, TookRight, SetCell, place_of, step_of, rules_of, first_fit}
 use Rattle.model.specs.Calls.{Call, Turn, OfTurn, apply, turn, turn_of, settle, after, events_of, answers_of}
 use Rattle.model.specs.Intake.{Intake, new_job, sealed}
 use Rattle.model.specs.Law.{WellFormed, Admissible, same, Member, by_other, count_of, is_start, is_taking, is_setting, RestartsHaveACause, Counted, NoOneForgotten, LogsOrdered, Law, program_or, program_of}
 use Rattle.model.specs.declared.Step.{Step}
 use Rattle.model.specs.declared.Step.TheVariants.{Wait}
 use Rattle.model.specs.declared.Stage.{Stage}
-use Rattle.model.specs.declared.Stage.TheVariants.{Start, At, Rollback, Validate, Commit, Done}
+use Rattle.model.specs.declared.Stage.TheVariants.{At, Commit, Done}
 use Rattle.model.specs.declared.Party.TheVariants.{Job}
 use Rattle.model.specs.declared.Rule.{Rule}
 use Rattle.model.proofs.Basics.{by_bool, by_cond, zero_one, at_map, sum}
@@ -43,17 +43,10 @@ stirred_between j (Started e ∷ es) later p =
     by_bool (same (Job j) e)
     (λ t. let q : false ≡ true = p.0 t in zero_one (cc))
     (λ t. stirred_between j es later (subst (λ z. Fair j (cond z false false) (es ++ Started (Job j) ∷ later)) t p.1))
-stirred_between j (ReadCell e c v ∷ es) later p = stirred_between j es later p.1
-stirred_between j (WroteCell e c v ∷ es) later p = stirred_between j es later p.1
-stirred_between j (TookRight e ∷ es) later p =
-    by_bool (same (Job j) e)
-    (λ t. counts_later j (TookRight e) es (stirred_between j es later (subst (λ z. Fair j (cond z false true) (es ++ Started (Job j) ∷ later)) t p.1)))
-    (λ t. counts_one j (TookRight e) es (ap not t))
-stirred_between j (SetCell e c v ∷ es) later p =
-    by_bool (same (Job j) e)
-    (λ t. counts_later j (SetCell e c v) es (stirred_between j es later (subst (λ z. Fair j (cond z false true) (es ++ Started (Job j) ∷ later)) t p.1)))
-    (λ t. counts_one j (SetCell e c v) es (ap not t))
-stirred_between j (Joined e ∷ es) later p = stirred_between j es later p.1
+stirred_between j (event ∷ es) later p =
+    by_bool (by_other j event)
+    (λ t. counts_one j event es t)
+    (λ t. counts_later j event es (stirred_between j es later (subst (λ z. Fair j (cond z true false) (es ++ Started (Job j) ∷ later)) t p.1)))
 
 restarts : (es : List Event) → ((j : ℕ) → Fair j true es) → RestartsHaveACause es
 restarts es h j before between later e =
@@ -65,6 +58,12 @@ restarts es h j before between later e =
 abbrev owed : Bool → ℕ
 owed true = 0
 owed false = 1
+
+owing : (x acc : Bool) → owed acc ≤ suc (owed (cond x true acc))
+owing true true = omega arith
+owing true false = omega arith
+owing false true = omega arith
+owing false false = omega arith
 
 starts_bound : (j : ℕ) (es : List Event) (acc : Bool) → Fair j acc es → count_of (is_start j) es + owed acc ≤ 1 + spent es
 starts_bound j [] true p = omega arith
@@ -79,27 +78,13 @@ starts_bound j (Started e ∷ es) acc p =
     (λ q.
     let ih = starts_bound j es acc (subst (λ x. Fair j (cond x false acc) es) q p.1) in
     subst (λ x. cond x (suc (count_of (is_start j) es)) (count_of (is_start j) es) + owed acc ≤ 1 + spent es) (sym q) ih)
-starts_bound j (ReadCell e c v ∷ es) acc p = starts_bound j es acc p.1
-starts_bound j (WroteCell e c v ∷ es) acc p = starts_bound j es acc p.1
 starts_bound j (TookRight e ∷ es) acc p =
     let n : ℕ = count_of (is_start j) es in
-    let y : n + owed acc ≤ 1 + (suc (count_of is_taking es) + count_of is_setting es) = omega (arith, starts_bound j es (cond (same (Job j) e) acc true) p.1, owing (same (Job j) e) acc) in y
-  where
-    owing : (x acc : Bool) → owed acc ≤ suc (owed (cond x acc true))
-    owing true true = omega arith
-    owing true false = omega arith
-    owing false true = omega arith
-    owing false false = omega arith
+    let y : n + owed acc ≤ 1 + (suc (count_of is_taking es) + count_of is_setting es) = omega (arith, starts_bound j es (cond (not (same (Job j) e)) true acc) p.1, owing (not (same (Job j) e)) acc) in y
 starts_bound j (SetCell e c v ∷ es) acc p =
     let n : ℕ = count_of (is_start j) es in
-    let y : n + owed acc ≤ 1 + (count_of is_taking es + suc (count_of is_setting es)) = omega (arith, starts_bound j es (cond (same (Job j) e) acc true) p.1, owing (same (Job j) e) acc) in y
-  where
-    owing : (x acc : Bool) → owed acc ≤ suc (owed (cond x acc true))
-    owing true true = omega arith
-    owing true false = omega arith
-    owing false true = omega arith
-    owing false false = omega arith
-starts_bound j (Joined e ∷ es) acc p = starts_bound j es acc p.1
+    let y : n + owed acc ≤ 1 + (count_of is_taking es + suc (count_of is_setting es)) = omega (arith, starts_bound j es (cond (not (same (Job j) e)) true acc) p.1, owing (not (same (Job j) e)) acc) in y
+starts_bound j (event ∷ es) acc p = starts_bound j es acc p.1
 
 module _ (programs : ℕ → List Step) (C₀ : List ℕ) where
   module _ (s : State) (v : View) (I : Inv programs C₀ s v) where
@@ -149,12 +134,8 @@ module _ (programs : ℕ → List Step) (C₀ : List ℕ) where
     room-24 j b g = go b.stage refl
       where
         go : (st : Stage) → b.stage ≡ st → room st ≤ 24
-        go Start h = omega arith
         go (At n) h = omega (arith, (stood programs C₀ s v I j b g (At n) h).0.2.within, (I.jobs j b g).well_formed.few_steps)
-        go Rollback h = omega arith
-        go Validate h = omega arith
-        go Commit h = omega arith
-        go Done h = omega arith
+        go st h = omega arith
 
     ordered : LogsOrdered s
     ordered = record {

@@ -1,7 +1,7 @@
 -- The calls of a running run: what each answers, the run after it, and what happened. A refusal changes nothing. Assumes nothing.
 use Rattle.std.specs.Prelude.{ℕ, zero, suc, ◌+◌, ◌%◌, ◌^◌, Bool, true, false, cond, List, [], ◌∷◌, ◌++◌, map, length, Some, None, Ok, Err, Option, Result, ◌==◌, nat_lt}
 use Rattle.model.specs.Logs.{Log, find, put, lowest, cell_of, changed, set_all, at, put_at}
-use Rattle.model.specs.Rules.{JobState, CorrectionState, State, Event, Started, ReadCell, WroteCell, TookRight, SetCell, Joined, counted, step_of, rules_of, first_fit, unmark, effect, happens}
+use Rattle.model.specs.Rules.{JobState, CorrectionState, State, Event, Started, ReadCell, WroteCell, TookRight, SetCell, Joined, counted, joined_last, step_of, rules_of, first_fit, unmark, effect, happens}
 use Rattle.model.specs.declared.Applied.{Applied}
 use Rattle.model.specs.declared.Party.{Party}
 use Rattle.model.specs.declared.Party.TheVariants.{Correction}
@@ -9,7 +9,7 @@ use Rattle.model.specs.declared.Refusal.{Refusal}
 use Rattle.model.specs.declared.Refusal.TheVariants.{NoSuchCell, NoSuchJob, TooManyCorrections, NotOpen, LogFull, RightHeld, Changed}
 use Rattle.model.specs.declared.Step.{Step}
 use Rattle.model.specs.declared.Rule.{Rule}
-use Rattle.model.specs.declared.Rule.TheVariants.{S1, S2, S3, R1, R2, R3, W1, W2, P, Rt, Rb, E, V1, V2, V3, V4, C1, C2, C3}
+use Rattle.model.specs.declared.Rule.TheVariants.{S1, S2, R1, R2, R3, W1, W2, Rt, V1, V2, C2}
 
 pub record Outcome (A : Type 0) : Type 0 where
   pub next : State
@@ -23,23 +23,16 @@ refuse s refusal = record { next = s; answer = Err refusal; events = [] }
 abbrev pub named : Rule → ℕ → Option ℕ
 named S1 c = Some c
 named S2 c = Some c
-named S3 c = None
 named R1 c = Some c
 named R2 c = Some c
 named R3 c = Some c
 named W1 c = Some c
 named W2 c = Some c
-named P c = None
 named Rt c = Some c
-named Rb c = None
-named E c = None
 named V1 c = Some c
 named V2 c = Some c
-named V3 c = None
-named V4 c = None
-named C1 c = None
 named C2 c = Some c
-named C3 c = None
+named rule c = None
 
 -- A turn applies the first rule of the job's stage that fits; where none fits, it answers none and changes nothing.
 abbrev pub Turned : Type 0
@@ -71,7 +64,7 @@ settle s = settle_in (length s.jobs + 25) s
 
 -- Corrections: cells that people set by hand between turns, each with logs of its own.
 abbrev pub with_corrections : State → List CorrectionState → State
-with_corrections s corrections = record { number = s.number; cells = s.cells; jobs = s.jobs; corrections = corrections; right = s.right; order = s.order; takings = s.takings; settings = s.settings }
+with_corrections s corrections = record s { corrections = corrections }
 
 abbrev pub correction : Bool → Log → Log → CorrectionState
 correction is_open reads writes = record { is_open = is_open; reads = reads; writes = writes }
@@ -81,15 +74,17 @@ pub record SlipNumbers : Type 0 where
   pub run : ℕ
   pub correction : ℕ
 
-abbrev pub open_correction : State → Outcome (Result SlipNumbers Refusal)
-open_correction s =
-    cond (nat_lt (length s.corrections) 8)
-    (record {
+-- Opening begins a correction with empty logs, and answers its slip.
+abbrev pub opened : State → Outcome (Result SlipNumbers Refusal)
+opened s =
+    record {
       next = with_corrections s (s.corrections ++ correction true [] [] ∷ []);
       answer = Ok (record { run = s.number; correction = suc (length s.corrections) });
       events = Started (Correction (suc (length s.corrections))) ∷ [];
-    })
-    (refuse s TooManyCorrections)
+    }
+
+abbrev pub open_correction : State → Outcome (Result SlipNumbers Refusal)
+open_correction s = cond (nat_lt (length s.corrections) 8) (opened s) (refuse s TooManyCorrections)
 
 -- The open correction that a slip stands for.
 abbrev pub if_open : Option CorrectionState → Option CorrectionState
@@ -135,16 +130,15 @@ settings_of party (e ∷ log) = SetCell party e.cell e.number ∷ settings_of pa
 abbrev pub filed : State → ℕ → CorrectionState → Outcome (Result (Unit {0}) Refusal)
 filed s k f =
     record {
-      next = record {
-        number = s.number;
-        cells = set_all f.writes s.cells;
-        jobs = map unmark s.jobs;
-        corrections = put_at s.corrections k (correction false f.reads f.writes);
-        right = None;
-        order = s.order ++ Correction k ∷ [];
-        takings = counted s.takings;
-        settings = (s.settings + length f.writes) % 2 ^ 32;
-      };
+      next = joined_last
+          (record s {
+            cells = set_all f.writes s.cells;
+            jobs = map unmark s.jobs;
+            corrections = put_at s.corrections k (correction false f.reads f.writes);
+            takings = counted s.takings;
+            settings = (s.settings + length f.writes) % 2 ^ 32;
+          })
+          (Correction k);
       answer = Ok tt;
       events = TookRight (Correction k) ∷ settings_of (Correction k) f.writes ++ Joined (Correction k) ∷ [];
     }

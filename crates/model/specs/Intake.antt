@@ -51,14 +51,9 @@ steps_fault count steps n [] = None
 steps_fault count steps n (step ∷ rest) = option_or (step_fault count steps n step) (steps_fault count steps (suc n) rest)
 
 abbrev pub stops : Step → Bool
-stops (Read r cell) = false
-stops (Write cell r) = false
-stops (Load r number) = false
-stops (Add r q) = false
-stops (Subtract r q) = false
-stops (JumpIfLess r q step) = false
 stops Wait = true
 stops End = true
+stops step = false
 
 abbrev pub last_stops : List Step → Bool
 last_stops [] = false
@@ -79,7 +74,7 @@ admission_fault jobs count steps =
 -- Admission answers the job's number.
 abbrev pub admit_unless : Intake → List Step → Option Fault → Intake × Result ℕ Fault
 admit_unless i steps (Some f) = (i, Err f)
-admit_unless i steps None = (record { number = i.number; cells = i.cells; programs = i.programs ++ steps ∷ [] }, Ok (suc (length i.programs)))
+admit_unless i steps None = (record i { programs = i.programs ++ steps ∷ [] }, Ok (suc (length i.programs)))
 
 abbrev pub admit : Intake → List Step → Intake × Result ℕ Fault
 admit i steps = admit_unless i steps (admission_fault (length i.programs) (length i.cells) steps)

@@ -3,10 +3,10 @@ use Rattle.std.specs.Prelude.{◌≡◌, ℕ, zero, suc, ◌+◌, ◌<◌, ◌�
 use Rattle.std.specs.List.{slice_get}
 use Rattle.model.specs.Steps.{no_registers, register}
 use Rattle.model.specs.Logs.{Log, Ascending, find, at, put_at, foldl}
-use Rattle.model.specs.Replay.{Request, Reads, Writes, Player, Play, Parts, beginning, waits, after_read, after_write, after_computing, play_step, play_job, plays, replayed}
+use Rattle.model.specs.Replay.{Request, Reads, Writes, Player, Play, Parts, beginning, waits, after_step, play_step, play_job, plays, replayed}
 use Rattle.model.specs.Rules.{JobState, CorrectionState, State, Event, Started, ReadCell, WroteCell, TookRight, SetCell, Joined, step_of}
-use Rattle.model.specs.Calls.{SlipNumbers, Call, Turn, Settle, Open, Read, Write, File, Withdraw, Answer, OfTurn, OfOpening, OfReading, OfAcceptance, turn, settle, with_corrections, correction, held, call, after, events_of, answers_of}
-use Rattle.model.specs.Intake.{Intake, stops, last_stops, admission_fault, sealed, closed_cells}
+use Rattle.model.specs.Calls.{SlipNumbers, Call, Turn, Settle, Open, Read, Write, File, Answer, OfTurn, OfOpening, OfReading, OfAcceptance, turn, settle, with_corrections, correction, held, call, after, events_of, answers_of}
+use Rattle.model.specs.Intake.{Intake, stops, last_stops, admission_fault, new_job, sealed, closed_cells}
 use Rattle.model.specs.declared.Party.{Party}
 use Rattle.model.specs.declared.Party.TheVariants.{Job, Correction}
 use Rattle.model.specs.declared.Step.{Step}
@@ -31,18 +31,14 @@ pub record Admissible (i : Intake) : Type 0 where
 
 abbrev pub same : Party → Party → Bool
 same (Job a) (Job b) = a == b
-same (Job a) (Correction b) = false
-same (Correction a) (Job b) = false
 same (Correction a) (Correction b) = a == b
+same p q = false
 
 -- What a party read since its last start, in order.
 abbrev pub readings_after : Party → List ℕ → Event → List ℕ
 readings_after p readings (Started q) = cond (same p q) [] readings
 readings_after p readings (ReadCell q cell number) = cond (same p q) (readings ++ number ∷ []) readings
-readings_after p readings (WroteCell q cell number) = readings
-readings_after p readings (TookRight q) = readings
-readings_after p readings (SetCell q cell number) = readings
-readings_after p readings (Joined q) = readings
+readings_after p readings event = readings
 
 abbrev pub readings_of : List Event → Party → List ℕ
 readings_of events p = foldl (readings_after p) [] events
@@ -52,9 +48,7 @@ abbrev pub requests_after : ℕ → List Request → Event → List Request
 requests_after k requested (Started q) = cond (same (Correction k) q) [] requested
 requests_after k requested (ReadCell q cell number) = cond (same (Correction k) q) (requested ++ Reads cell ∷ []) requested
 requests_after k requested (WroteCell q cell number) = cond (same (Correction k) q) (requested ++ Writes cell number ∷ []) requested
-requests_after k requested (TookRight q) = requested
-requests_after k requested (SetCell q cell number) = requested
-requests_after k requested (Joined q) = requested
+requests_after k requested event = requested
 
 abbrev pub requests_of : List Event → ℕ → List Request
 requests_of events k = foldl (requests_after k) [] events
@@ -82,12 +76,9 @@ Serial s₀ calls =
 
 -- Another party than job j took the right or set a cell.
 abbrev pub by_other : ℕ → Event → Bool
-by_other j (Started p) = false
-by_other j (ReadCell p cell number) = false
-by_other j (WroteCell p cell number) = false
 by_other j (TookRight p) = not (same (Job j) p)
 by_other j (SetCell p cell number) = not (same (Job j) p)
-by_other j (Joined p) = false
+by_other j event = false
 
 -- How many events pass a test.
 abbrev pub count_of : (Event → Bool) → List Event → ℕ
@@ -101,27 +92,15 @@ RestartsHaveACause events =
 
 abbrev pub is_start : ℕ → Event → Bool
 is_start j (Started p) = same (Job j) p
-is_start j (ReadCell p cell number) = false
-is_start j (WroteCell p cell number) = false
-is_start j (TookRight p) = false
-is_start j (SetCell p cell number) = false
-is_start j (Joined p) = false
+is_start j event = false
 
 abbrev pub is_taking : Event → Bool
-is_taking (Started p) = false
-is_taking (ReadCell p cell number) = false
-is_taking (WroteCell p cell number) = false
 is_taking (TookRight p) = true
-is_taking (SetCell p cell number) = false
-is_taking (Joined p) = false
+is_taking event = false
 
 abbrev pub is_setting : Event → Bool
-is_setting (Started p) = false
-is_setting (ReadCell p cell number) = false
-is_setting (WroteCell p cell number) = false
-is_setting (TookRight p) = false
 is_setting (SetCell p cell number) = true
-is_setting (Joined p) = false
+is_setting event = false
 
 -- The counters are exact, and a job's starts are at most one more than takings and settings.
 pub record Counted (s : State) (events : List Event) : Type 0 where
@@ -152,11 +131,9 @@ pub record LogsOrdered (s : State) : Type 0 where
 
 -- A player after so many steps; one that stands at a step that waits or ends, or at none, stays.
 abbrev pub stepped : Option Step → List ℕ → Player → Player
-stepped (Some (steps.Read r cell)) cells p = after_read cells r cell p
-stepped (Some (steps.Write cell r)) cells p = after_write cell r p
 stepped (Some Wait) cells p = p
 stepped (Some End) cells p = p
-stepped (Some step) cells p = after_computing step p
+stepped (Some step) cells p = after_step step cells p
 stepped None cells p = p
 
 abbrev pub walked : ℕ → List Step → List ℕ → Player → Player
@@ -255,9 +232,9 @@ is_idle answer = false
 abbrev pub IdleChangesNothing : State → Type 0
 IdleChangesNothing s = (c : Call) → is_idle (call s c).answer ≡ true → ((call s c).next ≡ s) × ((call s c).events ≡ [])
 
--- A job that stands at its one step with a correction's logs, and the run in which it is the only job.
+-- A new job, but that it stands at its one step with a correction's logs, and the run in which it is the only job.
 abbrev pub standing : CorrectionState → List ℕ → Step → JobState
-standing f registers step = record { program = step ∷ []; stage = At 0; registers = registers; reads = f.reads; writes = f.writes; marked = false; starts = 0 }
+standing f registers step = record (new_job (step ∷ [])) { stage = At 0; registers = registers; reads = f.reads; writes = f.writes }
 
 abbrev pub stand_in : State → CorrectionState → List ℕ → Step → State
 stand_in s f registers step = record s { jobs = standing f registers step ∷ [] }
@@ -316,13 +293,8 @@ ClosingIsSerial = (s₀ : State) → Lawful s₀ → (calls : List Call) → clo
 -- Whether one of these calls opens a correction.
 abbrev pub opens_one : List Call → Bool
 opens_one [] = false
-opens_one (Turn j ∷ calls) = opens_one calls
-opens_one (Settle ∷ calls) = opens_one calls
 opens_one (Open ∷ calls) = true
-opens_one (Read slip cell ∷ calls) = opens_one calls
-opens_one (Write slip cell number ∷ calls) = opens_one calls
-opens_one (File slip ∷ calls) = opens_one calls
-opens_one (Withdraw slip ∷ calls) = opens_one calls
+opens_one (c ∷ calls) = opens_one calls
 
 -- A run that has no corrections has none until one is opened, whatever else is called.
 abbrev pub NoneUntilOpened : Type 0

@@ -52,12 +52,8 @@ counted n = (n + 1) % 2 ^ 32
 
 -- How many steps stand before the one at which a job stands.
 abbrev pub place_of : Stage → ℕ
-place_of Start = 0
 place_of (At n) = n
-place_of Rollback = 0
-place_of Validate = 0
-place_of Commit = 0
-place_of Done = 0
+place_of stage = 0
 
 -- The step at which a job stands; past its last step it would wait.
 abbrev pub step_or : Option Step → Step
@@ -67,16 +63,13 @@ step_or (Some step) = step
 abbrev pub step_of : JobState → Step
 step_of b = step_or (slice_get b.program (place_of b.stage))
 
--- The rules of a step and of a stage, in the order in which they are tried.
+-- The rules of a step and of a stage, in the order in which they are tried. A step that touches no cell and does not stop has p alone.
 abbrev pub rules_at : Step → List Rule
 rules_at (Read r cell) = R1 ∷ R2 ∷ R3 ∷ []
 rules_at (Write cell r) = W1 ∷ W2 ∷ []
-rules_at (Load r number) = P ∷ []
-rules_at (Add r q) = P ∷ []
-rules_at (Subtract r q) = P ∷ []
-rules_at (JumpIfLess r q step) = P ∷ []
 rules_at Wait = Rt ∷ []
 rules_at End = E ∷ []
+rules_at step = P ∷ []
 
 abbrev pub rules_of : Stage → Step → List Rule
 rules_of Start step = S1 ∷ S2 ∷ S3 ∷ []
@@ -86,16 +79,11 @@ rules_of Validate step = V1 ∷ V2 ∷ V3 ∷ V4 ∷ []
 rules_of Commit step = C1 ∷ C2 ∷ C3 ∷ []
 rules_of Done step = []
 
--- The cell that a step names, and the register.
+-- The cell that a step names, and the register; 0 for a step that names none.
 abbrev pub step_cell : Step → ℕ
 step_cell (Read r cell) = cell
 step_cell (Write cell r) = cell
-step_cell (Load r number) = 0
-step_cell (Add r q) = 0
-step_cell (Subtract r q) = 0
-step_cell (JumpIfLess r q step) = 0
-step_cell Wait = 0
-step_cell End = 0
+step_cell step = 0
 
 abbrev pub step_register : Step → ℕ
 step_register (Read r cell) = r
@@ -104,8 +92,7 @@ step_register (Load r number) = r
 step_register (Add r q) = r
 step_register (Subtract r q) = r
 step_register (JumpIfLess r q step) = r
-step_register Wait = 0
-step_register End = 0
+step_register step = 0
 
 -- Fits at the step's cell if the log has it.
 abbrev pub if_logged : ℕ → Option ℕ → Option ℕ
@@ -155,25 +142,25 @@ first_fit s j b step (rule ∷ rules) = or_next rule (fits s j b step rule) (fir
 
 -- A job or a run with some of its parts replaced.
 abbrev pub in_stage : JobState → Stage → JobState
-in_stage b stage = record { program = b.program; stage = stage; registers = b.registers; reads = b.reads; writes = b.writes; marked = b.marked; starts = b.starts }
+in_stage b stage = record b { stage = stage }
 
 abbrev pub with_logs : JobState → Log → Log → JobState
-with_logs b reads writes = record { program = b.program; stage = b.stage; registers = b.registers; reads = reads; writes = writes; marked = b.marked; starts = b.starts }
+with_logs b reads writes = record b { reads = reads; writes = writes }
 
 abbrev pub with_mark : JobState → Bool → JobState
-with_mark b marked = record { program = b.program; stage = b.stage; registers = b.registers; reads = b.reads; writes = b.writes; marked = marked; starts = b.starts }
+with_mark b marked = record b { marked = marked }
 
 abbrev pub with_registers : JobState → List ℕ → JobState
-with_registers b registers = record { program = b.program; stage = b.stage; registers = registers; reads = b.reads; writes = b.writes; marked = b.marked; starts = b.starts }
+with_registers b registers = record b { registers = registers }
 
 abbrev pub started : JobState → JobState
-started b = record { program = b.program; stage = At 0; registers = no_registers; reads = b.reads; writes = b.writes; marked = b.marked; starts = counted b.starts }
+started b = record b { stage = At 0; registers = no_registers; starts = counted b.starts }
 
 abbrev pub onward : JobState → Step → JobState
 onward b step = in_stage b (At (following step b.registers (place_of b.stage)))
 
 abbrev pub with_jobs : State → List JobState → State
-with_jobs s jobs = record { number = s.number; cells = s.cells; jobs = jobs; corrections = s.corrections; right = s.right; order = s.order; takings = s.takings; settings = s.settings }
+with_jobs s jobs = record s { jobs = jobs }
 
 abbrev pub with_job : State → ℕ → JobState → State
 with_job s j b = with_jobs s (put_at s.jobs j b)
@@ -194,14 +181,32 @@ loaded b step number = with_registers (onward b step) (slice_set b.registers (st
 abbrev pub logged : JobState → Step → ℕ → JobState
 logged b step cell = with_logs (onward b step) b.reads (put b.writes cell (register b.registers (step_register step)))
 
+-- The number that a rule reads or sets at cell c.
+abbrev pub number_by : State → JobState → ℕ → Rule → ℕ
+number_by s b c R2 = value_in (find b.reads c)
+number_by s b c R3 = cell_of s.cells c
+number_by s b c rule = value_in (find b.writes c)
+
+-- The run where job j takes the right.
+abbrev pub right_taken : State → ℕ → State
+right_taken s j = record s { right = Some j; takings = counted s.takings }
+
+-- The run where a cell is set, and the cells are these then.
+abbrev pub cell_set : State → List ℕ → State
+cell_set s cells = record s { cells = cells; settings = counted s.settings }
+
+-- The run where a party joins the commit order, and the right is free.
+abbrev pub joined_last : State → Party → State
+joined_last s p = record s { right = None; order = s.order ++ p ∷ [] }
+
 -- What each rule changes, at the cell or job c at which it fits.
 abbrev pub effect : State → ℕ → JobState → Step → ℕ → Rule → State
 effect s j b step c S1 = with_job s j (with_logs b b.reads (remove b.writes c))
 effect s j b step c S2 = with_job s j (with_logs b (remove b.reads c) b.writes)
 effect s j b step c S3 = with_job s j (started b)
-effect s j b step c R1 = with_job s j (loaded b step (value_in (find b.writes c)))
-effect s j b step c R2 = with_job s j (loaded b step (value_in (find b.reads c)))
-effect s j b step c R3 = with_job s j (with_logs (loaded b step (cell_of s.cells c)) (put b.reads c (cell_of s.cells c)) b.writes)
+effect s j b step c R1 = with_job s j (loaded b step (number_by s b c R1))
+effect s j b step c R2 = with_job s j (loaded b step (number_by s b c R2))
+effect s j b step c R3 = with_job s j (with_logs (loaded b step (number_by s b c R3)) (put b.reads c (number_by s b c R3)) b.writes)
 effect s j b step c W1 = with_job s j (logged b step c)
 effect s j b step c W2 = with_job s j (logged b step c)
 effect s j b step c P = with_job s j (with_registers (onward b step) (computed step b.registers))
@@ -210,60 +215,19 @@ effect s j b step c Rb = with_job s j (in_stage b Start)
 effect s j b step c E = with_job s j (with_mark (in_stage b Validate) true)
 effect s j b step c V1 = with_job s j (with_logs b (remove b.reads c) b.writes)
 effect s j b step c V2 = with_job s j (with_mark (with_logs (in_stage b Rollback) (remove b.reads c) b.writes) false)
-effect s j b step c V3 =
-    record {
-      number = s.number;
-      cells = s.cells;
-      jobs = put_at s.jobs j (with_mark (in_stage b Commit) false);
-      corrections = s.corrections;
-      right = Some j;
-      order = s.order;
-      takings = counted s.takings;
-      settings = s.settings;
-    }
+effect s j b step c V3 = right_taken (with_job s j (with_mark (in_stage b Commit) false)) j
 effect s j b step c V4 = with_job s j (in_stage b Rollback)
 effect s j b step c C1 = with_jobs s (unmark_in s.jobs c (at s.jobs c))
-effect s j b step c C2 =
-    record {
-      number = s.number;
-      cells = slice_set s.cells c (value_in (find b.writes c));
-      jobs = put_at s.jobs j (with_logs b b.reads (remove b.writes c));
-      corrections = s.corrections;
-      right = s.right;
-      order = s.order;
-      takings = s.takings;
-      settings = counted s.settings;
-    }
-effect s j b step c C3 =
-    record {
-      number = s.number;
-      cells = s.cells;
-      jobs = put_at s.jobs j (in_stage b Done);
-      corrections = s.corrections;
-      right = None;
-      order = s.order ++ Job j ∷ [];
-      takings = s.takings;
-      settings = s.settings;
-    }
+effect s j b step c C2 = cell_set (with_job s j (with_logs b b.reads (remove b.writes c))) (slice_set s.cells c (number_by s b c C2))
+effect s j b step c C3 = joined_last (with_job s j (in_stage b Done)) (Job j)
 
--- What happens where a rule is applied.
+-- What happens where a rule is applied; where it is none of these, nothing happens.
 abbrev pub happens : State → ℕ → JobState → ℕ → Rule → List Event
-happens s j b c S1 = []
-happens s j b c S2 = []
 happens s j b c S3 = Started (Job j) ∷ []
-happens s j b c R1 = ReadCell (Job j) c (value_in (find b.writes c)) ∷ []
-happens s j b c R2 = ReadCell (Job j) c (value_in (find b.reads c)) ∷ []
-happens s j b c R3 = ReadCell (Job j) c (cell_of s.cells c) ∷ []
-happens s j b c W1 = []
-happens s j b c W2 = []
-happens s j b c P = []
-happens s j b c Rt = []
-happens s j b c Rb = []
-happens s j b c E = []
-happens s j b c V1 = []
-happens s j b c V2 = []
+happens s j b c R1 = ReadCell (Job j) c (number_by s b c R1) ∷ []
+happens s j b c R2 = ReadCell (Job j) c (number_by s b c R2) ∷ []
+happens s j b c R3 = ReadCell (Job j) c (number_by s b c R3) ∷ []
 happens s j b c V3 = TookRight (Job j) ∷ []
-happens s j b c V4 = []
-happens s j b c C1 = []
-happens s j b c C2 = SetCell (Job j) c (value_in (find b.writes c)) ∷ []
+happens s j b c C2 = SetCell (Job j) c (number_by s b c C2) ∷ []
 happens s j b c C3 = Joined (Job j) ∷ []
+happens s j b c rule = []

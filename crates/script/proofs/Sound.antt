@@ -56,33 +56,17 @@ module _ (line : ℕ) (k : Kind) (ns : List ℕ) (p : Progress) where
   taken-facts : (section : Section) (g : Group) → in_order section g ≡ true → Unread section p → Is g p k ns → Facts section p →
       Facts (taken g p line k ns).section (taken g p line k ns) × Unread (taken g p line k ns).section (taken g p line k ns)
   taken-facts AtStart OfSize o u i f = (record { some = i.1; few = i.2; presets = no_presets p (get_or ns 0 0) u.0 }, (u.1, u.2))
-  taken-facts AtStart OfCell o u i f = zero_one (cc)
-  taken-facts AtStart OfJob o u i f = zero_one (cc)
-  taken-facts AtStart OfStep o u i f = zero_one (cc)
-  taken-facts AtStart OfTurns o u i f = zero_one (cc)
-  taken-facts InCells OfSize o u i f = zero_one (cc)
   taken-facts InCells OfCell o u i f = (record { some = f.some; few = f.few; presets = all_push (λ q. q.cell < p.count) p.presets _ f.presets i.1 }, u)
   taken-facts InCells OfJob o u i f = ((record { some = f.some; few = f.few; presets = f.presets }, no_jobs p.count p.jobs u.0), u.1)
-  taken-facts InCells OfStep o u i f = zero_one (cc)
   taken-facts InCells OfTurns o u i f =
       ((record { some = f.some; few = f.few; presets = f.presets }, no_jobs p.count p.jobs u.0, all_push _ p.turns _ (none_allotted p u.1) (i.1, i.2, i.3, i.4)), tt)
-  taken-facts InJob OfSize o u i f = zero_one (cc)
-  taken-facts InJob OfCell o u i f = zero_one (cc)
-  taken-facts InJob OfJob o u i f = zero_one (cc)
   taken-facts InJob OfStep o u i f = ((record { some = f.0.some; few = f.0.few; presets = f.0.presets }, f.1), u)
-  taken-facts InJob OfTurns o u i f = zero_one (cc)
-  taken-facts AfterJob OfSize o u i f = zero_one (cc)
-  taken-facts AfterJob OfCell o u i f = zero_one (cc)
   taken-facts AfterJob OfJob o u i f = ((record { some = f.0.some; few = f.0.few; presets = f.0.presets }, f.1), u)
-  taken-facts AfterJob OfStep o u i f = zero_one (cc)
   taken-facts AfterJob OfTurns o u i f =
       ((record { some = f.0.some; few = f.0.few; presets = f.0.presets }, f.1, all_push _ p.turns _ (none_allotted p u) (i.1, i.2, i.3, i.4)), tt)
-  taken-facts InTurns OfSize o u i f = zero_one (cc)
-  taken-facts InTurns OfCell o u i f = zero_one (cc)
-  taken-facts InTurns OfJob o u i f = zero_one (cc)
-  taken-facts InTurns OfStep o u i f = zero_one (cc)
   taken-facts InTurns OfTurns o u i f =
       ((record { some = f.0.some; few = f.0.few; presets = f.0.presets }, f.1, all_push _ p.turns _ f.2 (i.1, i.2, i.3, i.4)), tt)
+  taken-facts section g o u i f = zero_one (cc)
 
 -- What a line that was read is.
 pub record Parsed (p q : Progress) (line : ℕ) (bytes : List ℕ) : Type 0 where

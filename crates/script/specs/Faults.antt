@@ -86,33 +86,17 @@ nothing_read = progress AtStart 0 [] [] [] 0 []
 abbrev pub script_of : Progress → Script
 script_of p = record { count = p.count; presets = p.presets; jobs = p.jobs; turns = p.turns }
 
--- Which lines may come next.
+-- Which lines may come next; no others.
 abbrev pub in_order : Section → Group → Bool
 in_order AtStart OfSize = true
-in_order AtStart OfCell = false
-in_order AtStart OfJob = false
-in_order AtStart OfStep = false
-in_order AtStart OfTurns = false
-in_order InCells OfSize = false
 in_order InCells OfCell = true
 in_order InCells OfJob = true
-in_order InCells OfStep = false
 in_order InCells OfTurns = true
-in_order InJob OfSize = false
-in_order InJob OfCell = false
-in_order InJob OfJob = false
 in_order InJob OfStep = true
-in_order InJob OfTurns = false
-in_order AfterJob OfSize = false
-in_order AfterJob OfCell = false
 in_order AfterJob OfJob = true
-in_order AfterJob OfStep = false
 in_order AfterJob OfTurns = true
-in_order InTurns OfSize = false
-in_order InTurns OfCell = false
-in_order InTurns OfJob = false
-in_order InTurns OfStep = false
 in_order InTurns OfTurns = true
+in_order section group = false
 
 abbrev pub unless : Bool → Cause → Option Cause
 unless true cause = None
@@ -164,7 +148,7 @@ read_numbers [] line k bytes = Ok []
 read_numbers (test ∷ tests) line k bytes =
     next (read_number test (number_of (field_at k bytes)) line k) (λ n. next (read_numbers tests line (suc k) bytes) (λ ns. Ok (n ∷ ns)))
 
--- The step that a line of numbers means.
+-- The step that a step's line of numbers means.
 abbrev pub step_from : Kind → List ℕ → Step
 step_from Read ns = step.Read (slice_index ns 0) (slice_index ns 1)
 step_from Write ns = step.Write (slice_index ns 0) (slice_index ns 1)
@@ -172,12 +156,8 @@ step_from Load ns = step.Load (slice_index ns 0) (slice_index ns 1)
 step_from Add ns = step.Add (slice_index ns 0) (slice_index ns 1)
 step_from Subtract ns = step.Subtract (slice_index ns 0) (slice_index ns 1)
 step_from JumpIfLess ns = step.JumpIfLess (slice_index ns 0) (slice_index ns 1) (slice_index ns 2)
-step_from Wait ns = step.Wait
 step_from End ns = step.End
-step_from Size ns = step.Wait
-step_from Cell ns = step.Wait
-step_from Job ns = step.Wait
-step_from Turns ns = step.Wait
+step_from kind ns = step.Wait
 
 abbrev pub preset : ℕ → ℕ → Preset
 preset cell number = record { cell = cell; number = number }

@@ -1,9 +1,11 @@
 -- Lines: letters, fields, and their text. Assumes nothing.
 use Rattle.std.specs.Prelude.{ℕ, cond, List, [], ◌∷◌, ◌++◌, Some, None, Option, ◌==◌}
 use Rattle.std.specs.List.{flat_map}
+use Rattle.std.specs.Option.{option_map}
 use Rattle.report.specs.Text.{field}
 use Rattle.script.specs.declared.Kind.{Kind}
 use Rattle.script.specs.declared.Kind.TheVariants.{Size, Cell, Job, Read, Write, Load, Add, Subtract, JumpIfLess, Wait, End, Turns}
+use Rattle.script.specs.declared.Head.{Head}
 use Rattle.script.specs.declared.Group.{Group}
 use Rattle.script.specs.declared.Group.TheVariants.{OfSize, OfCell, OfJob, OfStep, OfTurns}
 
@@ -52,19 +54,19 @@ fields_of Wait = 0
 fields_of End = 0
 fields_of Turns = 2
 
+-- What a letter says of its line: the kind, and how many fields it has.
+abbrev pub head : Kind → Head
+head kind = record { kind = kind; fields = fields_of kind }
+
+abbrev pub head_of : ℕ → Option Head
+head_of letter = option_map head (kind_of letter)
+
 abbrev pub group_of : Kind → Group
 group_of Size = OfSize
 group_of Cell = OfCell
 group_of Job = OfJob
-group_of Read = OfStep
-group_of Write = OfStep
-group_of Load = OfStep
-group_of Add = OfStep
-group_of Subtract = OfStep
-group_of JumpIfLess = OfStep
-group_of Wait = OfStep
-group_of End = OfStep
 group_of Turns = OfTurns
+group_of kind = OfStep
 
 -- A line: its kind, and the numbers in its fields.
 pub record Item : Type 0 where

@@ -57,8 +57,12 @@ abbrev pub Admitted : ℕ → ℕ → List (List Step) → Type 0
 Admitted count before [] = Unit {0}
 Admitted count before (steps ∷ jobs) = (admission_fault before count steps ≡ None) × Admitted count (suc before) jobs
 
+-- Numbers of 32 bits.
+abbrev pub Words : List ℕ → Type 0
+Words ns = All (λ n. n < 2 ^ 32) ns
+
 abbrev pub Fits : Item → Type 0
-Fits i = All (λ n. n < 2 ^ 32) i.numbers
+Fits i = Words i.numbers
 
 -- A script that a listing can have.
 pub record Within (s : Script) : Type 0 where

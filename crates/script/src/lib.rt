@@ -2,7 +2,7 @@
 #![tactic(auto)]
 
 ghost use Rattle.std.specs.Prelude.{◌≡◌, suc, ok_or};
-ghost use Rattle.script.specs.Lines.{kind_of, fields_of, group_of};
+ghost use Rattle.script.specs.Lines.{head_of, group_of};
 ghost use Rattle.script.specs.Faults.{cause_number, cause_of, in_order, fault_at, column_of, fault_line};
 ghost use Rattle.script.specs.Law.{ListingLaw};
 ghost use Rattle.script.specs.declared.Cause.TheVariants.{Letter};
@@ -10,7 +10,7 @@ ghost use Rattle.script.specs.declared.Cause.TheVariants.{Letter};
 use model::{Fault, Refusal};
 use report::FaultLine;
 
-// The kinds of lines. Each has a letter and so many fields.
+// The kinds of lines. Each has a letter.
 #[derive(Clone, Copy, Debug, PartialEq)]
 pub enum Kind {
     // M: how many cells the store has.
@@ -30,6 +30,13 @@ pub enum Kind {
     End,
     // G: a job and its turns.
     Turns,
+}
+
+// What a line's letter says: of which kind the line is, and how many fields it has.
+#[derive(Clone, Copy, Debug, PartialEq)]
+pub struct Head {
+    pub kind: Kind,
+    pub fields: usize,
 }
 
 // The kinds as far as their order matters.
@@ -116,44 +123,33 @@ pub struct ListingFault {
     pub column: u32,
 }
 
-// The kind of lines with that letter, if it is the letter of a line.
-impl TryFrom<char> for Kind {
+// What a line's letter says, if it is the letter of a line.
+impl TryFrom<char> for Head {
     type Error = Cause;
 
-    ghost try_from_gives = { λ letter kind. kind ≡ ok_or (kind_of letter) Letter };
+    ghost try_from_gives = { λ letter head. head ≡ ok_or (head_of letter) Letter };
 
-    fn try_from(letter: char) -> Result<Kind, Cause> {
-        match letter {
-            'M' => Ok(Kind::Size),
-            'C' => Ok(Kind::Cell),
-            'J' => Ok(Kind::Job),
-            'R' => Ok(Kind::Read),
-            'W' => Ok(Kind::Write),
-            'K' => Ok(Kind::Load),
-            'A' => Ok(Kind::Add),
-            'S' => Ok(Kind::Subtract),
-            'L' => Ok(Kind::JumpIfLess),
-            'T' => Ok(Kind::Wait),
-            'E' => Ok(Kind::End),
-            'G' => Ok(Kind::Turns),
-            _ => Err(Cause::Letter),
-        }
+    fn try_from(letter: char) -> Result<Head, Cause> {
+        let (kind, fields) = match letter {
+            'M' => (Kind::Size, 1),
+            'C' => (Kind::Cell, 2),
+            'J' => (Kind::Job, 1),
+            'R' => (Kind::Read, 2),
+            'W' => (Kind::Write, 2),
+            'K' => (Kind::Load, 2),
+            'A' => (Kind::Add, 2),
+            'S' => (Kind::Subtract, 2),
+            'L' => (Kind::JumpIfLess, 3),
+            'T' => (Kind::Wait, 0),
+            'E' => (Kind::End, 0),
+            'G' => (Kind::Turns, 2),
+            _ => return Err(Cause::Letter),
+        };
+        Ok(Head { kind, fields })
     }
 }
 
 impl Kind {
-    // How many fields such a line has.
-    pub fn fields(self) -> usize
-        ensures { result ≡ fields_of self }
-    {
-        match self {
-            Kind::Wait | Kind::End => 0,
-            Kind::Size | Kind::Job => 1,
-            Kind::JumpIfLess => 3,
-            _ => 2,
-        }
-    }
-
     pub fn group(self) -> Group
         ensures { result ≡ group_of self }
     {

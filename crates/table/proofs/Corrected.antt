@@ -164,12 +164,10 @@ module _ (C : List ℕ) (t : Table) (i : ℕ) (x : Correction) (here : slice_get
     -- The run then, and the answer.
     pub file-accepted : (D : List ℕ) (n : ℕ) (jobs : List Job) (order : List Party) → D ≡ set_all (correction_of (get_or ys i d)).writes C → n ≡ length (correction_of (get_or ys i d)).writes →
         map job_of jobs ≡ map unmark (map job_of t.jobs.items) → order ≡ t.order.items ++ party.Correction (i + 1) ∷ [] →
-        (record {
-          number = t.number;
+        (record (state_of C t) {
           cells = D;
           jobs = map job_of jobs;
           corrections = map correction_of (with_correction t ys i c');
-          right = t.right;
           order = order;
           takings = counted t.takings;
           settings = (t.settings + n) % 2 ^ 32;
@@ -185,8 +183,7 @@ module _ (C : List ℕ) (t : Table) (i : ℕ) (x : Correction) (here : slice_get
         ∙ ap (λ c. set (corrections_in t) i (shut (correction_of c))) same in
         let places = joined ∙ ap (λ (m : ℕ). t.order.items ++ party.Correction m ∷ []) (add-one i) in
         let settings = ap (λ (m : ℕ). (t.settings + m) % 2 ^ 32) (count ∙ ap (λ c. length (correction_of c).writes) same) in (
-          (λ k. record {
-            number = t.number;
+          (λ k. record s {
             cells = cells k;
             jobs = marks k;
             corrections = corrections k;

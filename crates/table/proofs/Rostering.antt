@@ -12,7 +12,7 @@ use Rattle.model.specs.Rules.{JobState}
 use Rattle.model.specs.Steps.{no_registers}
 use Rattle.model.specs.declared.Refusal.TheVariants.{TooManyJobs}
 use Rattle.model.specs.declared.Stage.{Stage}
-use Rattle.model.specs.declared.Stage.TheVariants.{Start, At, Rollback, Validate, Commit, Done}
+use Rattle.model.specs.declared.Stage.TheVariants.{Start}
 use Rattle.model.specs.declared.Step.{Step}
 use Rattle.model.proofs.Admission.{neither, not_bad, suffices}
 use Rattle.model.proofs.Basics.{zero_one, at_map}
@@ -23,11 +23,7 @@ use Rattle.table.specs.declared.roster.Roster.{Roster}
 -- A job that has had no turn is as it was admitted.
 started_not : (s : Stage) → is_start s ≡ true → s ≡ Start
 started_not Start e = refl
-started_not (At n) e = zero_one (cc)
-started_not Rollback e = zero_one (cc)
-started_not Validate e = zero_one (cc)
-started_not Commit e = zero_one (cc)
-started_not Done e = zero_one (cc)
+started_not stage e = zero_one (cc)
 
 nothing_in : (log : Log) → is_empty log ≡ true → log ≡ []
 nothing_in [] e = refl
@@ -48,8 +44,7 @@ new_is b e =
     let l = and_parts (is_empty b.reads) _ r.1 in
     let w = and_parts (is_empty b.writes) _ l.1 in
     let m = and_parts (not b.marked) (eqb b.starts 0) w.1 in
-    λ n. record {
-      program = b.program;
+    λ n. record b {
       stage = started_not b.stage h.0 n;
       registers = equal_numbers b.registers no_registers r.0 n;
       reads = nothing_in b.reads l.0 n;

@@ -5,7 +5,7 @@ use Rattle.job.specs.declared.moves.Move.{Move}
 use Rattle.job.specs.declared.moves.Move.TheVariants.{NoRule, Applies, Takes, Commits}
 use Rattle.model.specs.Calls.{Turned, named, apply, turn, turn_of}
 use Rattle.model.specs.Logs.{at, find, value_in}
-use Rattle.model.specs.Rules.{JobState, State, SetCell, step_of, rules_of, other_marked, first_fit, unmark_in, with_jobs, with_job, effect}
+use Rattle.model.specs.Rules.{JobState, State, SetCell, step_of, rules_of, other_marked, first_fit, right_taken, unmark_in, with_jobs, with_job, effect}
 use Rattle.model.specs.declared.Applied.{Applied}
 use Rattle.model.specs.declared.Entry.{Entry}
 use Rattle.model.specs.declared.Party.TheVariants.{Job}
@@ -14,7 +14,7 @@ use Rattle.model.specs.declared.Rule.{Rule}
 use Rattle.model.specs.declared.Rule.TheVariants.{V3, C1, C2, C3}
 use Rattle.model.specs.declared.Stage.TheVariants.{Commit}
 use Rattle.table.specs.declared.table.Table.{Table}
-use Rattle.table.specs.States.{state_of, JobTurns, with_right, with_setting, with_joined}
+use Rattle.table.specs.States.{state_of, JobTurns, with_setting, with_joined}
 use Rattle.table.proofs.Tabling.{with_same}
 
 -- A turn of job j in run s leaves s' and answers a.
@@ -37,8 +37,8 @@ module _ (s s' : State) (i : ℕ) (b : JobState) (here : at s.jobs (suc i) ≡ S
   pub goes : (b' : JobState) (a : Applied) → s' ≡ with_job s (suc i) b' → Comes s (suc i) b b' (Applies a) → TurnIs s (suc i) s' (Ok (Some a))
   goes b' a e x = made (Ok (Some a)) (e ∙ sym x.0) (sym x.1)
 
-  pub takes : (b' : JobState) (t : State) → t ≡ with_job s (suc i) b' → s' ≡ with_right t (suc i) → Comes s (suc i) b b' Takes → TurnIs s (suc i) s' (Ok (Some (record { rule = V3; cell = None })))
-  takes b' t e f x = made _ (f ∙ (ap (λ z. with_right z (suc i)) e ∙ sym x.0)) (sym x.1)
+  pub takes : (b' : JobState) (t : State) → t ≡ with_job s (suc i) b' → s' ≡ right_taken t (suc i) → Comes s (suc i) b b' Takes → TurnIs s (suc i) s' (Ok (Some (record { rule = V3; cell = None })))
+  takes b' t e f x = made _ (f ∙ (ap (λ z. right_taken z (suc i)) e ∙ sym x.0)) (sym x.1)
 
   -- Where the job commits, nothing has changed yet.
   pub still : (b' : JobState) → s' ≡ with_job s (suc i) b' → Comes s (suc i) b b' Commits → s' ≡ s
@@ -71,7 +71,7 @@ module _ (s s' : State) (i : ℕ) (b : JobState) (here : at s.jobs (suc i) ≡ S
 abbrev pub Moved : State → State → ℕ → ℕ → Move → Type 0
 Moved s s' job i NoRule = TurnIs s job s' (Ok None)
 Moved s s' job i (Applies a) = TurnIs s job s' (Ok (Some a))
-Moved s s' job i Takes = (next : State) → next ≡ with_right s' (suc i) → TurnIs s job next (Ok (Some (record { rule = V3; cell = None })))
+Moved s s' job i Takes = (next : State) → next ≡ right_taken s' (suc i) → TurnIs s job next (Ok (Some (record { rule = V3; cell = None })))
 Moved s s' job i Commits =
     ((b : JobState) × (at s'.jobs (suc i) ≡ Some b) × (b.stage ≡ Commit)) × ((next : State) (a : Turned) → TurnIs s' (suc i) next a → TurnIs s job next a) × ((turn s job).events ≡ (turn s' (suc i)).events)
 

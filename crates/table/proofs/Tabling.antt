@@ -59,7 +59,7 @@ some-unfinished (x ∷ xs) (suc i) b e f = omega (arith, weigh x (unfinished xs)
 
 -- A job put where it was.
 pub with_same : (s : State) (i : ℕ) (b : JobState) → at s.jobs (suc i) ≡ Some b → with_job s (suc i) b ≡ s
-with_same s i b e = λ k. record { number = s.number; cells = s.cells; jobs = put-again s.jobs (suc i) b e k; corrections = s.corrections; right = s.right; order = s.order; takings = s.takings; settings = s.settings }
+with_same s i b e = λ k. record s { jobs = put-again s.jobs (suc i) b e k }
 
 -- Whether a job is done does not change by its own turn.
 pub same_done : (s : State) (j : ℕ) (b b' : JobState) (m : Move) → Comes s j b b' m → is_done b'.stage ≡ is_done b.stage

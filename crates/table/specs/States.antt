@@ -1,11 +1,11 @@
 -- What a run's table means over the cells of its store. Assumes nothing.
-use Rattle.std.specs.Prelude.{◌≡◌, ℕ, suc, List, [], ◌∷◌, ◌++◌, map, length, Some, None, Option}
+use Rattle.std.specs.Prelude.{◌≡◌, ℕ, suc, List, map, length, Some, None, Option}
 use Rattle.correction.specs.Corrections.{correction_of}
 use Rattle.job.specs.Jobs.{job_of}
 use Rattle.job.specs.Moves.{Moves, WriteOf}
 use Rattle.job.specs.declared.moves.Move.{Move}
-use Rattle.model.specs.Logs.{at, put_at}
-use Rattle.model.specs.Rules.{JobState, CorrectionState, State, counted, in_stage, with_job}
+use Rattle.model.specs.Logs.{at}
+use Rattle.model.specs.Rules.{JobState, CorrectionState, State, in_stage, with_job, cell_set, joined_last}
 use Rattle.model.specs.declared.Entry.{Entry}
 use Rattle.model.specs.declared.Party.TheVariants.{Job}
 use Rattle.model.specs.declared.Stage.TheVariants.{Done}
@@ -35,36 +35,12 @@ abbrev pub JobTurns : List ℕ → Table → Table → ℕ → Move → Type 0
 JobTurns cells t t' i move =
     (b : JobState) × (b' : JobState) × (at (jobs_in t) (suc i) ≡ Some b) × ((C : List ℕ) → state_of C t' ≡ with_job (state_of C t) (suc i) b') × Moves cells t.right b b' move × (length t'.jobs.items ≡ length t.jobs.items)
 
--- The run where job j holds the right.
-abbrev pub with_right : State → ℕ → State
-with_right s j =
-    record {
-      number = s.number;
-      cells = s.cells;
-      jobs = s.jobs;
-      corrections = s.corrections;
-      right = Some j;
-      order = s.order;
-      takings = counted s.takings;
-      settings = s.settings;
-    }
-
 abbrev pub done : JobState → JobState
 done b = in_stage b Done
 
 -- The run where an entry was taken, to be set in cells that are then D.
 abbrev pub with_setting : State → List ℕ → ℕ → JobState → State
-with_setting s D j b =
-    record {
-      number = s.number;
-      cells = D;
-      jobs = put_at s.jobs j b;
-      corrections = s.corrections;
-      right = s.right;
-      order = s.order;
-      takings = s.takings;
-      settings = counted s.settings;
-    }
+with_setting s D j b = cell_set (with_job s j b) D
 
 abbrev pub after_taking : State → ℕ → JobState → Option Entry → State
 after_taking s j b None = s
@@ -77,17 +53,7 @@ WriteTaken t t' i r =
 
 -- The run where job j has committed.
 abbrev pub with_joined : State → ℕ → JobState → State
-with_joined s j b =
-    record {
-      number = s.number;
-      cells = s.cells;
-      jobs = put_at s.jobs j (done b);
-      corrections = s.corrections;
-      right = None;
-      order = s.order ++ Job j ∷ [];
-      takings = s.takings;
-      settings = s.settings;
-    }
+with_joined s j b = joined_last (with_job s j (done b)) (Job j)
 
 abbrev pub Finished : Table → Table → ℕ → Type 0
 Finished t t' i = (b : JobState) × (at (jobs_in t) (suc i) ≡ Some b) × ((C : List ℕ) → state_of C t' ≡ with_joined (state_of C t) (suc i) b)

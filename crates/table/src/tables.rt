@@ -5,8 +5,8 @@ ghost use Rattle.arrayvec.specs.ArrayVec.{array_vec_len};
 ghost use Rattle.model.specs.Intake.{starts_or};
 ghost use Rattle.model.specs.Logs.{at};
 ghost use Rattle.job.specs.Shape.{is_done};
-ghost use Rattle.model.specs.Rules.{JobState, other_marked, unmark_in, with_jobs};
-ghost use Rattle.table.specs.States.{jobs_in, state_of, with_right, JobTurns, WriteTaken, Finished};
+ghost use Rattle.model.specs.Rules.{JobState, other_marked, right_taken, unmark_in, with_jobs};
+ghost use Rattle.table.specs.States.{jobs_in, state_of, JobTurns, WriteTaken, Finished};
 
 use crate::table::Table;
 use job::moves::Move;
@@ -45,7 +45,7 @@ impl Table {
     // The job at a place takes the commit right.
     pub(crate) fn take_right(&mut self, i: usize)
         requires { i < array_vec_len self.old.jobs }
-        ensures { (C : List ℕ) → state_of C self.new ≡ with_right (state_of C self.old) (suc i) }
+        ensures { (C : List ℕ) → state_of C self.new ≡ right_taken (state_of C self.old) (suc i) }
     {
         self.right = Some(i as u32 + 1);
         self.takings = self.takings.wrapping_add(1);

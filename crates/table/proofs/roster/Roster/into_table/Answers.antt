@@ -1,5 +1,7 @@
-use Rattle.std.proofs.Common.{map, length, None, ap, arith}
+use Rattle.std.proofs.Common.{map, length, ap, arith}
 use Rattle.correction.specs.Corrections.{correction_of}
+use Rattle.model.specs.Intake.{sealed}
+use Rattle.table.specs.Intakes.{intake_of}
 use Rattle.table.specs.Shape.{unclosed}
 use Rattle.table.proofs.Rostering.{as_admitted}
 use Rattle.table.proofs.Tabling.{unfinished_le}
@@ -18,4 +20,4 @@ pub returns : goal.returns
 returns c =
     let r = c.args.self in
     let jobs = as_admitted r.jobs.items r.unstarted in
-    λ C n. record { number = r.number; cells = C; jobs = jobs n; corrections = ap (map correction_of) c.new.ensures n; right = None; order = c.new-2.ensures n; takings = 0; settings = 0 }
+    λ C n. record (sealed (intake_of C r)) { jobs = jobs n; corrections = ap (map correction_of) c.new.ensures n; order = c.new-2.ensures n }

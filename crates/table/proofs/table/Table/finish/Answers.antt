@@ -40,5 +40,5 @@ returns c =
     let o = c.push.ensures.items ∙ ap (λ (n : ℕ). t.order.items ++ Job n ∷ []) (add-one i) in (
       b,
       row_means job_of t.jobs xs i d shown c.requires.place,
-      (λ C n. record { number = t.number; cells = C; jobs = e n; corrections = (state_of C t).corrections; right = None; order = o n; takings = t.takings; settings = t.settings }),
+      (λ C n. record (state_of C t) { jobs = e n; right = None; order = o n }),
     )

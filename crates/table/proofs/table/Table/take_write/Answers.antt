@@ -39,6 +39,6 @@ returns c =
       job_of b',
       row_means job_of t.jobs xs i d c.deref_mut.ensures.value c.requires,
       subst (WriteOf (job_of (get_or xs i d)) (job_of b')) c.in_ok-entry.was c.take_write.ensures,
-      (λ C n. record { number = t.number; cells = C; jobs = e n; corrections = (state_of C t).corrections; right = t.right; order = (state_of C t).order; takings = t.takings; settings = counted t.settings }),
+      (λ C n. record (state_of C t) { jobs = e n; settings = counted t.settings }),
       as_many t xs i d c.deref_mut.ensures.value c.requires b',
     )
