@@ -20,7 +20,7 @@ use Rattle.model.proofs.Whole.{law}
 use Rattle.script.specs.Scripts.{Script, All, Admitted, Within}
 use Rattle.script.specs.declared.Allotment.{Allotment}
 use Rattle.table.proofs.Rostering.{room_for}
-use Rattle.batch.specs.Played.{Committed, alone, steps_or}
+use Rattle.batch.specs.Played.{LeftByJobs, alone, steps_or}
 use Rattle.batch.specs.Runs.{turns_of, script_calls, intake_over, run_over}
 use Rattle.batch.proofs.Playing.{after-append}
 
@@ -161,7 +161,7 @@ module _ (s : Script) (w : Within s) (number : ℕ) (cells : List ℕ) where
   parts_same : parts_of (sealed i) (events_of (sealed i) (script_calls s)) ≡ alone s.jobs
   parts_same n = record { programs = λ j. programs_same s.jobs j n; scripts = λ k. ((lawful.read_as_answered k).1 ∙ nothing_asked k (sealed i) (script_calls s) own) n }
 
-  pub one-by-one : Committed (intake_over number cells s) (run_over number cells s)
+  pub one-by-one : LeftByJobs (intake_over number cells s) (run_over number cells s)
   one-by-one =
       let only = keeps.order ([], refl) in
       let serial = lawful.serial free in (

@@ -27,9 +27,9 @@ pub record OneByOne (i : Intake) (order cells : List ℕ) : Type 0 where
   pub end : All (λ p. p.ended ≡ true) (plays (alone i.programs) (map Job order) i.cells)
   pub leave : cells ≡ replayed (alone i.programs) (map Job order) i.cells
 
--- No corrections joined, and the cells of the run are what its jobs leave, one by one in the commit order.
-abbrev pub Committed : Intake → State → Type 0
-Committed i s = (order : List ℕ) × (s.order ≡ map Job order) × OneByOne i order s.cells
+-- The cells of the run are what its jobs leave, one by one in the commit order, which no correction joined.
+abbrev pub LeftByJobs : Intake → State → Type 0
+LeftByJobs i s = (order : List ℕ) × (s.order ≡ map Job order) × OneByOne i order s.cells
 
 -- What a report tells: which jobs committed, in their order, how often each job started, and the number of each cell.
 pub record Report : Type 0 where

@@ -2,7 +2,7 @@ ghost use Rattle.std.specs.Prelude.{◌≡◌, length, nat_eq, is_ok, None, IfOk
 ghost use Rattle.listing_reader.specs.Drafts.{script_in};
 ghost use Rattle.run.specs.Runs.{state};
 ghost use Rattle.store.specs.Sets.{SetsEach};
-ghost use Rattle.batch.specs.Played.{Committed};
+ghost use Rattle.batch.specs.Played.{LeftByJobs};
 ghost use Rattle.batch.specs.Runs.{changes_over, intake_over, run_over};
 
 use crate::admissions::admit_all;
@@ -25,7 +25,7 @@ pub fn run_script<S: Store>(store: S, number: u32, script: &Script) -> Result<Ru
     ensures runs { is_ok result ≡ nat_eq (length (S.Store.cells store)) (script_in script.now).count }
     ensures state { IfOk result (λ run. state S.Store.cells run ≡ run_over number (S.Store.cells store) (script_in script.now)) }
     ensures settled { IfOk result (λ run. (state S.Store.cells run).right ≡ None) }
-    ensures serial { IfOk result (λ run. Committed (intake_over number (S.Store.cells store) (script_in script.now)) (state S.Store.cells run)) }
+    ensures serial { IfOk result (λ run. LeftByJobs (intake_over number (S.Store.cells store) (script_in script.now)) (state S.Store.cells run)) }
     ensures store { IfOk result (λ run. SetsEach S.Store.sets store (changes_over number (S.Store.cells store) (script_in script.now)) run.store) }
     ensures loan { IfOk result (λ run. S.Store.loan run.store ≡ S.Store.loan store) }
     ensures refused { IfErr result (λ other. other.store ≡ store) }

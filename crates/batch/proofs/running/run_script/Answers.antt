@@ -1,6 +1,6 @@
 use Rattle.std.proofs.Common.{sym, ap, ◌∙◌, subst}
 use Rattle.listing_reader.specs.Drafts.{script_in}
-use Rattle.batch.specs.Played.{Committed}
+use Rattle.batch.specs.Played.{LeftByJobs}
 use Rattle.batch.specs.Runs.{intake_over}
 use Rattle.batch.proofs.Serially.{free, one-by-one}
 use Rattle.batch.proofs.running.run_script.Goals as goal
@@ -14,4 +14,4 @@ pub returns-clause-serial : goal.returns-clause-serial
 returns-clause-serial g c =
     let s = script_in c.args.script.now in
     let cells = g.S.Store.cells c.args.store in
-    subst (Committed (intake_over c.args.number cells s)) (sym c.run_fitting.ensures.state) (one-by-one s c.args.script.now.within c.args.number cells)
+    subst (LeftByJobs (intake_over c.args.number cells s)) (sym c.run_fitting.ensures.state) (one-by-one s c.args.script.now.within c.args.number cells)
