@@ -60,9 +60,10 @@ impl Logs {
             return Ok(Reading { number, found });
         }
         let number = number_at(store, cell);
-        let reads = log_of(self.reads)
-            .put(cell, number)
-            .ok_or(Refusal::LogFull)?;
+        // No `ok_or` here and in `write`: it would copy the log once more.
+        let Some(reads) = log_of(self.reads).put(cell, number) else {
+            return Err(Refusal::LogFull);
+        };
         self.reads = LogRow::from(reads);
         let found = Found::InStore;
         Ok(Reading { number, found })
@@ -74,9 +75,9 @@ impl Logs {
         ensures ok { OnOk result ((entries_of self.new.writes ≡ put (entries_of self.old.writes) cell number) × (self.new.reads ≡ self.old.reads)) }
         ensures err { IfErr result (λ e. (e ≡ Refusal.LogFull) × (self.new ≡ self.old)) }
     {
-        let writes = log_of(self.writes)
-            .put(cell, number)
-            .ok_or(Refusal::LogFull)?;
+        let Some(writes) = log_of(self.writes).put(cell, number) else {
+            return Err(Refusal::LogFull);
+        };
         self.writes = LogRow::from(writes);
         Ok(())
     }

@@ -9,7 +9,7 @@ ghost use Rattle.job.specs.Moves.{Moves, WriteOf};
 ghost use Rattle.job.specs.Programs.{steps_in};
 ghost use Rattle.job.specs.Shape.{runnable};
 
-use crate::admission::{REGISTERS, admission_fault};
+use crate::admission::{MOST_STEPS, REGISTERS, admission_fault};
 use crate::job::Job;
 use crate::moves::Move;
 use crate::program::Program;
@@ -120,7 +120,13 @@ impl Job {
 impl Default for Job {
     ghost is_default = { λ b. job_of b ≡ new_job (step.End ∷ []) };
 
+    // A run makes one for each place of its table. Written out, and not by `Program::new`, which copies the steps; and not
+    // inlined: in one piece with the loop over the places, the whole table was copied several times more.
+    #[inline(never)]
     fn default() -> Job {
-        Job::unstarted(Program::new(&[Step::End]).unwrap())
+        Job::unstarted(Program {
+            steps: [Step::End; MOST_STEPS],
+            len: 1,
+        })
     }
 }
